@@ -1,0 +1,23 @@
+-- `octets::within16` meets its contract.
+-- Assumes nothing.
+use Rattle.spec.specs.Octets.{be16}
+use borrow.Author.Needs.{needs}
+use Rattle.octets.proofs.within16.Statement.{statement}
+use Rattle.octets.proofs.within16.Tie as tie
+
+returns : tie.Need-returns
+unfolding be16
+returns c = cc
+
+pub within16-spec : {M : Type 1} → statement M
+within16-spec =
+    tie.close
+    (tie.spec
+    (λ c. search needs)
+    (λ c κs. search needs)
+    (λ c. search needs)
+    (λ c. search needs)
+    (λ c. search needs)
+    (λ c κs. search needs)
+    (λ c. search needs)
+    returns)

@@ -1,0 +1,58 @@
+-- The offsets of an accepted book's entries: they fit a u16, and what is read there are the entries and peers of the definition's segments.
+-- Assumes nothing.
+use mathlib.Core.Path.{_≡_, refl, sym, ap, _∙_}
+use mathlib.Core.List.{List, [], _∷_, map}
+use Prim.Native.Nat.{ℕ, zero, suc, _+_, _≤_, _<_}
+use native.Mathlib.Nat.{add-zero}
+use native.Mathlib.Numerals.{add-one}
+use native.Mathlib.Omega.{arith}
+use lib.ListN.{length, getD, length-map}
+use Rattle.spec.specs.declared.Verdict.the-variants.{Accepted}
+use Rattle.spec.specs.Limits.{entrySize, maxBook, maxSegments}
+use Rattle.spec.specs.Basics.{range}
+use Rattle.spec.specs.Book.{Entry, segmentCount, entryCountAt, bodyAt, peerCount, entryEnd, peerAt, peerEntryAt, asEntryAt, entryAt, entryOffset, segmentAt, verdict}
+use Rattle.spec.specs.Edges.{noPeer, entryOf, peerOf}
+use Rattle.spec.proofs.Lists.{length-range}
+use Rattle.spec.proofs.BookLaws.{AcceptedBook, accepted}
+use Rattle.spec.proofs.BodyLaws.{entry-at, entry-place, body-end}
+
+pub offset-more : (b : List ℕ) (at i : ℕ) → entryOffset b at (i + 1) ≡ entryEnd b (entryOffset b at i)
+unfolding entryOffset
+offset-more b at i = rw add-one
+
+-- the offsets from the second entry on
+pub offset-next : (b : List ℕ) (at i : ℕ) → entryOffset b (entryEnd b at) i ≡ entryOffset b at (suc i)
+unfolding entryOffset
+offset-next b at zero = refl
+offset-next b at (suc i) = ap (entryEnd b) (offset-next b at i)
+
+pub offset-small : (b : List ℕ) (a : AcceptedBook b) (k : ℕ) (h : k < segmentCount b) (i : ℕ) → i < entryCountAt b k
+    → entryOffset b (bodyAt b k) i + entrySize ≤ maxBook
+offset-small b a k h i l = omega (arith, entry-place b a k h i l .entry, body-end b a k h, a .small)
+
+pub position-small : (b : List ℕ) → verdict b ≡ Accepted → (k : ℕ) → k < segmentCount b → k < maxSegments
+position-small b q k h = omega (arith, accepted b q .crowd)
+
+-- ---- what the definition's segments hold
+
+-- the entry itself is what `as_entry` reads there, and it has as many peers as it says
+pub own-read : (b : List ℕ) (k i : ℕ) → i < entryCountAt b k → entryOf (segmentAt b k) i .own ≡ asEntryAt b (entryOffset b (bodyAt b k) i)
+unfolding entryAt
+own-read b k i h = ap (λ (x : Entry). x .own) (entry-at b k i h)
+
+pub peers-read : (b : List ℕ) (k i : ℕ) → i < entryCountAt b k → length (entryOf (segmentAt b k) i .peers) ≡ peerCount b (entryOffset b (bodyAt b k) i)
+unfolding entryAt
+peers-read b k i h = ap (λ (x : Entry). length (x .peers)) (entry-at b k i h) ∙ simp (length-map, length-range)
+
+module _ {A : Type 0} (f : ℕ → A) where
+  map-range-at : (j n i : ℕ) (d : A) → i < n → getD (map f (range j n)) i d ≡ f (j + i)
+  unfolding range
+  map-range-at j zero i d h = absurd (omega arith)
+  map-range-at j (suc n) zero d h = ap f (sym (add-zero j))
+  map-range-at j (suc n) (suc i) d h = map-range-at (j + 1) n i d (omega arith) ∙ ap f (omega arith)
+
+pub peer-read : (b : List ℕ) (k i p : ℕ) → i < entryCountAt b k → p < peerCount b (entryOffset b (bodyAt b k) i)
+    → peerOf (segmentAt b k) i p ≡ peerEntryAt b (peerAt (entryOffset b (bodyAt b k) i) p)
+unfolding peerOf entryAt
+peer-read b k i p h l =
+    rw (entry-at b k i h) (map-range-at (λ q. peerEntryAt b (peerAt (entryOffset b (bodyAt b k) i) q)) 0 _ p noPeer l ∙ ap (λ q. peerEntryAt b (peerAt (entryOffset b (bodyAt b k) i) q)) (omega arith))

@@ -1,0 +1,64 @@
+-- `bodies_verdict` meets its contract. The loop's invariant: what is left says what the whole says, and `at` is where the next body starts.
+-- Assumes nothing.
+use mathlib.Core.Path.{_≡_, refl, sym, ap, _∙_}
+use Prim.Native.Nat.{_+_, _*_, _-_, _^_, _≤_, _<_}
+use native.Mathlib.Omega.{arith}
+use Rattle.spec.specs.Book.{bodyAt, bodiesVerdict}
+use Rattle.segment.proofs.Turns.{body-more, body-says, bodies-refused, bodies-next, bodies-done}
+use borrow.Author.Needs.{needs}
+use Rattle.segment.proofs.answer.bodies_verdict.Statement.{statement}
+use Rattle.segment.proofs.answer.bodies_verdict.Tie as tie
+
+abbrev Inv-loop : tie.InvT-loop
+Inv-loop book count k₀ at₀ k at = (k ≤ count) × (at < 2 ^ 21 + 65536 * k) × (at ≡ bodyAt book k) × (bodiesVerdict book 0 count ≡ bodiesVerdict book k (count - k))
+
+abbrev μ-loop : tie.MeasureT-loop
+μ-loop book count k₀ at₀ k at = count - k
+
+loop-holds : tie.Need-loop-holds Inv-loop μ-loop
+loop-holds c =
+    let n = c .before .before .args .count in
+    let e : n ≡ n - 0 = omega arith in
+    (omega arith, omega arith, omega arith, ap (bodiesVerdict (c .before .before .args .book .now) 0) e)
+
+returns : tie.Need-returns Inv-loop μ-loop
+returns c =
+    let l = c .before .before .before .before .before .before .before .before in
+    let b = l .before .before .before .args .book .now in
+    let e = c .enum-told .given .1 in
+    sym (l .loop .inv .3 ∙ bodies-refused b (l .before .before .before .args .count) (l .loop .k) _ (omega arith) (body-says b 0 (l .loop .k) (l .loop .at) _ (l .loop .inv .2) (cc) ∙ e) ∙ sym e)
+
+loop-again : tie.Need-loop-again Inv-loop μ-loop
+loop-again c =
+    let l = c .before .before .before .before .before .before .before .before in
+    let b = l .before .before .before .args .book .now in (
+      omega arith,
+      omega arith,
+      omega (arith, body-more b (l .loop .k)),
+      l .loop .inv .3 ∙ bodies-next b (l .before .before .before .args .count) (l .loop .k) (omega arith) (body-says b 0 (l .loop .k) (l .loop .at) _ (l .loop .inv .2) (cc) ∙ c .enum-told2 .given .1),
+    )
+
+returns-2 : tie.Need-returns-2 Inv-loop μ-loop
+returns-2 c = sym (c .before .loop .inv .3 ∙ bodies-done _ _ _ (omega arith))
+
+pub bodies-verdict-spec : {M : Type 1} → statement M
+bodies-verdict-spec =
+    tie.close
+    (tie.spec
+    Inv-loop
+    μ-loop
+    (λ c κs. search needs)
+    loop-holds
+    (λ c κs. search needs)
+    (λ c κs. search needs)
+    (λ c. search needs)
+    (λ c κs. search needs)
+    (λ c κs. search needs)
+    (λ c κs. search needs)
+    (λ c. search needs)
+    returns
+    (λ c. search needs)
+    (λ c. search needs)
+    (λ c. search needs)
+    loop-again
+    returns-2)

@@ -1,0 +1,14 @@
+-- `head_at` meets its contract.
+-- Assumes nothing.
+use Rattle.spec.specs.Book.{headAt}
+use mathlib.Core.Path.{refl}
+use borrow.Author.Needs.{needs}
+use Rattle.segment.proofs.heads.head_at.Statement.{statement}
+use Rattle.segment.proofs.heads.head_at.Tie as tie
+
+returns : tie.Need-returns
+unfolding headAt
+returns c = (refl, refl)
+
+pub head-at-spec : {M : Type 1} → statement M
+head-at-spec = tie.close (tie.spec (λ c. search needs) (λ c. search needs) returns)

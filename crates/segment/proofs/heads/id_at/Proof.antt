@@ -1,0 +1,13 @@
+-- `id_at` meets its contract.
+-- Assumes nothing.
+use Rattle.spec.specs.Book.{idAt}
+use borrow.Author.Needs.{needs}
+use Rattle.segment.proofs.heads.id_at.Statement.{statement}
+use Rattle.segment.proofs.heads.id_at.Tie as tie
+
+returns : tie.Need-returns
+unfolding idAt
+returns c = cc
+
+pub id-at-spec : {M : Type 1} → statement M
+id-at-spec = tie.close (tie.spec (λ c κs. search needs) returns)

@@ -1,0 +1,88 @@
+-- What listing and assembly answer, and what they leave in the output: on every book, source, destination and output length.
+-- Assumes nothing.
+use Prim.Native.Nat.{ℕ}
+use mathlib.Core.List.{List, [], _∷_, flatMap}
+use lib.ListN.{length, replicate}
+use lib.Dec.{ltb}
+use Rattle.spec.specs.declared.IsdAsn.{IsdAsn}
+use Rattle.spec.specs.declared.Edge.{Edge}
+use Rattle.spec.specs.declared.Refusal.{Refusal}
+use Rattle.spec.specs.declared.Refusal.the-variants.{Cut, Surplus, Oversize, Crowded, Long, Peers, Misfit, Full, Small, Stranger}
+use Rattle.spec.specs.declared.Verdict.{Verdict}
+use Rattle.spec.specs.declared.Verdict.the-variants.{Accepted, Refused as RefusedBook}
+use Rattle.spec.specs.declared.ListAnswer.{ListAnswer}
+use Rattle.spec.specs.declared.ListAnswer.the-variants.{Count, Refused as RefusedList}
+use Rattle.spec.specs.declared.PathAnswer.{PathAnswer}
+use Rattle.spec.specs.declared.PathAnswer.the-variants.{Path, Loop, Bare, Refused as RefusedPath}
+use Rattle.spec.specs.Limits.{pathSize}
+use Rattle.spec.specs.Basics.{if_then_else_, padded, sameList}
+use Rattle.spec.specs.Book.{verdict}
+use Rattle.spec.specs.Chains.{chains}
+use Rattle.spec.specs.Order.{solutions}
+use Rattle.spec.specs.Assembly.{combinedPath, isLoop, isBare}
+use Rattle.spec.specs.Records.{solutionOctets, pathOctets, slots}
+
+-- the numbered answers
+abbrev pub refusalNumber : Refusal → ℕ
+refusalNumber Cut = 1
+refusalNumber Surplus = 2
+refusalNumber Oversize = 3
+refusalNumber Crowded = 4
+refusalNumber Long = 5
+refusalNumber Peers = 6
+refusalNumber Misfit = 7
+refusalNumber Full = 8
+refusalNumber Small = 9
+refusalNumber Stranger = 10
+
+-- an answer, and the bytes that the output then holds
+abbrev pub Listed : Type 0
+Listed = ListAnswer × List ℕ
+
+abbrev pub Assembled : Type 0
+Assembled = PathAnswer × List ℕ
+
+-- ---- listing; `bytes` is the output's length
+
+-- only the number returns, with the output zero
+unfoldable pub refusedList : ℕ → Refusal → Listed
+refusedList bytes r = (RefusedList r, replicate bytes 0)
+
+unfoldable pub listingOf : ℕ → List (List Edge) → Listed
+listingOf bytes found =
+    if ltb (slots bytes) (length found) then refusedList bytes Full
+    else (Count (length found), padded bytes (flatMap solutionOctets found))
+
+abbrev pub listingOn : Verdict → ℕ → List (List Edge) → Listed
+listingOn Accepted bytes found = listingOf bytes found
+listingOn (RefusedBook r) bytes found = refusedList bytes r
+
+unfoldable pub listing : (List ℕ → List ℕ) → List ℕ → IsdAsn → IsdAsn → ℕ → Listed
+listing digest b src dst bytes = listingOn (verdict b) bytes (solutions digest b src dst)
+
+-- ---- assembly of the solution whose record is given
+
+unfoldable pub refusedPath : ℕ → Refusal → Assembled
+refusedPath bytes r = (RefusedPath r, replicate bytes 0)
+
+-- a chain's path; Loop and Bare leave zeros
+unfoldable pub pathAnswer : List ℕ → ℕ → List Edge → Assembled
+pathAnswer b bytes c =
+    if isLoop (combinedPath b c .interfaces) then (Loop, replicate bytes 0)
+    else if isBare (combinedPath b c .interfaces) then (Bare, replicate bytes 0)
+    else (Path, padded bytes (pathOctets (combinedPath b c)))
+
+-- the chain that the record is of; a record of no chain is a stranger's
+unfoldable pub pathOfRecord : List ℕ → ℕ → List ℕ → List (List Edge) → Assembled
+pathOfRecord b bytes given [] = refusedPath bytes Stranger
+pathOfRecord b bytes given (c ∷ cs) =
+    let others = pathOfRecord b bytes given cs in
+    if sameList given (solutionOctets c) then pathAnswer b bytes c else others
+
+abbrev pub assemblyOn : Verdict → List ℕ → ℕ → List ℕ → List (List Edge) → Assembled
+assemblyOn Accepted b bytes given found =
+    if ltb bytes pathSize then refusedPath bytes Small else pathOfRecord b bytes given found
+assemblyOn (RefusedBook r) b bytes given found = refusedPath bytes r
+
+unfoldable pub assembly : List ℕ → IsdAsn → IsdAsn → List ℕ → ℕ → Assembled
+assembly b src dst given bytes = assemblyOn (verdict b) b bytes given (chains b src dst)

@@ -1,0 +1,158 @@
+-- The path of a chain: hops, MTU, interfaces, segment ids and expiry.
+-- Assumes nothing.
+use Prim.Native.Nat.{ℕ, _+_, _-_, _*_, _/_, _%_, _^_, min}
+use mathlib.Core.Bool.{Bool, true, false, _&&_, _||_, not}
+use mathlib.Core.List.{List, [], _∷_, _++_, map, flatMap, reverse}
+use lib.ListN.{length, take}
+use lib.Dec.{ltb, eqb}
+use lib.Bits.{bitXor}
+use Rattle.spec.specs.declared.IsdAsn.{IsdAsn}
+use Rattle.spec.specs.declared.HopField.{HopField}
+use Rattle.spec.specs.declared.InfoField.{InfoField}
+use Rattle.spec.specs.declared.PathInterface.{PathInterface}
+use Rattle.spec.specs.declared.Edge.{Edge}
+use Rattle.spec.specs.Limits.{maxTime, maxMtu}
+use Rattle.spec.specs.Basics.{if_then_else_, any, filter, range}
+use Rattle.spec.specs.Octets.{be16}
+use Rattle.spec.specs.Book.{Segment, segmentAt}
+use Rattle.spec.specs.Edges.{sameAs, entryOf, asOf, peerOf}
+
+-- the least of some numbers and of m
+unfoldable pub least : ℕ → List ℕ → ℕ
+least m [] = m
+least m (x ∷ xs) = least (min m x) xs
+
+-- ---- the entries that an edge uses
+
+unfoldable pub isPeerEdge : Edge → Bool
+isPeerEdge e = ltb 0 (e .peer)
+
+unfoldable pub atShortcut : Edge → ℕ → Bool
+atShortcut e i = eqb i (e .shortcut)
+
+-- on a peer edge the hop at the shortcut is the peer's
+unfoldable pub isPeerHop : Edge → ℕ → Bool
+isPeerHop e i = atShortcut e i && isPeerEdge e
+
+-- one interface, or none
+unfoldable pub interfaceIf : Bool → IsdAsn → ℕ → List PathInterface
+interfaceIf shown a id = if shown then record { local = a; id = id } ∷ [] else []
+
+module _ (seg : Segment) (e : Edge) where
+  -- how many: n - s
+  unfoldable pub hopCount : ℕ
+  hopCount = length (seg .entries) - e .shortcut
+
+  -- from the leaf down to the shortcut
+  unfoldable pub usedEntries : List ℕ
+  usedEntries = reverse (range (e .shortcut) hopCount)
+
+  unfoldable pub hopOf : ℕ → HopField
+  hopOf i = if isPeerHop e i then peerOf seg i (e .peer - 1) .hop else entryOf seg i .own .hop
+
+  -- peer MTU at a peer hop; ingress MTU at a regular hop if non-zero and not (at s with s above 0); always the AS MTU's low 16 bits
+  unfoldable pub mtusAt : ℕ → List ℕ
+  mtusAt i =
+      let ingressMtu : ℕ = entryOf seg i .own .«ingress_mtu» in
+      (if isPeerHop e i then peerOf seg i (e .peer - 1) .mtu ∷ []
+      else if eqb ingressMtu 0 || (atShortcut e i && ltb 0 (e .shortcut)) then []
+      else ingressMtu ∷ [])
+      ++ (entryOf seg i .own .mtu % 2 ^ 16 ∷ [])
+
+  -- of the hop given, with the entry's AS: egress if non-zero, then ingress if non-zero and (not at s, or s = 0, or a peer hop)
+  unfoldable pub interfacesAt : ℕ → List PathInterface
+  interfacesAt i =
+      let hop : HopField = hopOf i in
+      interfaceIf (not (eqb (hop .egress) 0)) (asOf seg i) (hop .egress)
+      ++ interfaceIf (not (eqb (hop .ingress) 0) && (not (atShortcut e i) || eqb (e .shortcut) 0 || isPeerHop e i)) (asOf seg i) (hop .ingress)
+
+-- hops and interfaces are reversed in construction direction
+module _ {A : Type 0} where
+  unfoldable pub inDirection : Bool → List A → List A
+  inDirection construction xs = if construction then reverse xs else xs
+
+-- ---- ids
+
+-- one fold step: id XOR the first two MAC bytes
+unfoldable pub foldStep : ℕ → HopField → ℕ
+foldStep id hop = bitXor id (be16 (hop .mac) 0)
+
+unfoldable pub foldHops : ℕ → List HopField → ℕ
+foldHops id [] = id
+foldHops id (hop ∷ hops) = foldHops (foldStep id hop) hops
+
+-- the segment's id folded over the regular MACs of the entries below k
+unfoldable pub idBelow : Segment → ℕ → ℕ
+idBelow seg k = foldHops (seg .id) (map (λ x. x .own .hop) (take k (seg .entries)))
+
+-- k = s in construction direction, else n - 1; with a peer and s = k, k + 1
+unfoldable pub stopAt : Segment → Edge → ℕ
+stopAt seg e =
+    let k : ℕ = if e .construction then e .shortcut else length (seg .entries) - 1 in
+    if isPeerEdge e && eqb (e .shortcut) k then k + 1 else k
+
+-- ---- expiry
+
+-- seconds that a hop of so many units lives
+unfoldable pub life : ℕ → ℕ
+life units = (units + 1) * 675 / 2
+
+-- ---- the path
+
+module _ (seg : Segment) (e : Edge) where
+  unfoldable pub hopsOf : List HopField
+  hopsOf = inDirection (e .construction) (map (hopOf seg e) (usedEntries seg e))
+
+  unfoldable pub interfacesOf : List PathInterface
+  interfacesOf = inDirection (e .construction) (flatMap (interfacesAt seg e) (usedEntries seg e))
+
+  unfoldable pub mtusOf : List ℕ
+  mtusOf = flatMap (mtusAt seg e) (usedEntries seg e)
+
+  unfoldable pub infoOf : InfoField
+  infoOf =
+      record {
+        construction = e .construction;
+        peering = isPeerEdge e;
+        hops = hopCount seg e;
+        id = idBelow seg (stopAt seg e);
+        timestamp = seg .timestamp;
+      }
+
+  -- timestamp plus the life of the smallest units among the hops, stopping at maxTime
+  unfoldable pub expiryOf : ℕ
+  expiryOf = min maxTime (seg .timestamp + life (least 255 (map (λ h. h .units) hopsOf)))
+
+pub record CombinedPath : Type 0 where
+  pub infos : List InfoField
+  pub hops : List HopField
+  pub interfaces : List PathInterface
+  pub mtu : ℕ
+  pub expiry : ℕ
+
+-- an edge's segment
+unfoldable pub segmentOf : List ℕ → Edge → Segment
+segmentOf b e = segmentAt b (e .position)
+
+unfoldable pub combinedPath : List ℕ → List Edge → CombinedPath
+combinedPath b c =
+    record {
+      infos = map (λ e. infoOf (segmentOf b e) e) c;
+      hops = flatMap (λ e. hopsOf (segmentOf b e) e) c;
+      interfaces = flatMap (λ e. interfacesOf (segmentOf b e) e) c;
+      mtu = least maxMtu (flatMap (λ e. mtusOf (segmentOf b e) e) c);
+      expiry = least maxTime (map (λ e. expiryOf (segmentOf b e) e) c);
+    }
+
+-- ---- Loop and Bare
+
+unfoldable pub timesOf : IsdAsn → List PathInterface → ℕ
+timesOf a is = length (filter (λ i. sameAs (i .local) a) is)
+
+-- the interfaces show one AS more than twice
+unfoldable pub isLoop : List PathInterface → Bool
+isLoop is = any (λ i. ltb 2 (timesOf (i .local) is)) is
+
+unfoldable pub isBare : List PathInterface → Bool
+isBare [] = true
+isBare (i ∷ is) = false

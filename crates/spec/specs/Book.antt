@@ -1,0 +1,187 @@
+-- The book: its sizes and heads, the answer about it alone, and the segments that an accepted one holds.
+-- Everything is read at its offset in the book's bytes.
+-- Assumes nothing.
+use Prim.Native.Nat.{ℕ, zero, suc, _+_, _*_}
+use mathlib.Core.Bool.{Bool, not}
+use mathlib.Core.List.{List, [], _∷_, map}
+use lib.ListN.{length, getD, take, drop}
+use lib.Dec.{ltb, eqb}
+use Rattle.spec.specs.declared.IsdAsn.{IsdAsn}
+use Rattle.spec.specs.declared.AsEntry.{AsEntry}
+use Rattle.spec.specs.declared.PeerEntry.{PeerEntry}
+use Rattle.spec.specs.declared.Refusal.the-variants.{Cut, Surplus, Oversize, Crowded, Long, Peers, Misfit}
+use Rattle.spec.specs.declared.Verdict.{Verdict}
+use Rattle.spec.specs.declared.Verdict.the-variants.{Accepted, Refused}
+use Rattle.spec.specs.Limits.{sizesSize, headSize, entrySize, peerSize, peerCountAt, maxBook, maxSegments, maxEntries, maxPeers}
+use Rattle.spec.specs.Basics.{if_then_else_, any, range}
+use Rattle.spec.specs.Octets.{be16, be32, be64}
+
+-- ---- sizes and heads
+
+-- C and N: how many core and non-core segments
+unfoldable pub cores : List ℕ → ℕ
+cores b = be16 b 0
+
+unfoldable pub nonCores : List ℕ → ℕ
+nonCores b = be16 b 2
+
+-- B: the bytes of all bodies
+unfoldable pub bodyTotal : List ℕ → ℕ
+bodyTotal b = be32 b 4
+
+unfoldable pub segmentCount : List ℕ → ℕ
+segmentCount b = cores b + nonCores b
+
+-- where the head of the segment at position k starts, and its four fields
+unfoldable pub headAt : ℕ → ℕ
+headAt k = sizesSize + headSize * k
+
+unfoldable pub timestampAt : List ℕ → ℕ → ℕ
+timestampAt b k = be32 b (headAt k)
+
+unfoldable pub idAt : List ℕ → ℕ → ℕ
+idAt b k = be16 b (headAt k + 4)
+
+unfoldable pub entryCountAt : List ℕ → ℕ → ℕ
+entryCountAt b k = be16 b (headAt k + 6)
+
+unfoldable pub bodyLengthAt : List ℕ → ℕ → ℕ
+bodyLengthAt b k = be16 b (headAt k + 8)
+
+-- the bytes of the bodies before position k
+unfoldable pub lengthsBelow : List ℕ → ℕ → ℕ
+lengthsBelow b zero = 0
+lengthsBelow b (suc k) = lengthsBelow b k + bodyLengthAt b k
+
+-- where the body at position k starts
+unfoldable pub bodyAt : List ℕ → ℕ → ℕ
+bodyAt b k = headAt (segmentCount b) + lengthsBelow b k
+
+-- the length that the sizes ask for
+unfoldable pub wholeLength : List ℕ → ℕ
+wholeLength b = headAt (segmentCount b) + bodyTotal b
+
+-- ---- the answer about the book alone
+
+unfoldable pub peerCount : List ℕ → ℕ → ℕ
+peerCount b at = getD b (at + peerCountAt) 0
+
+-- past the entry at an offset and its peers
+unfoldable pub entryEnd : List ℕ → ℕ → ℕ
+entryEnd b at = at + entrySize + peerSize * peerCount b at
+
+-- the entries of a body from an offset on, as many as are left; the body ends at `end`
+unfoldable pub entriesVerdict : List ℕ → ℕ → ℕ → ℕ → Verdict
+entriesVerdict b end at zero = if ltb at end then Refused Misfit else Accepted
+entriesVerdict b end at (suc left) =
+    let next = entriesVerdict b end (entryEnd b at) left in
+    if ltb end (at + entrySize) then Refused Misfit
+    else if ltb maxPeers (peerCount b at) then Refused Peers
+    else if ltb end (entryEnd b at) then Refused Misfit
+    else next
+
+unfoldable pub bodyVerdict : List ℕ → ℕ → Verdict
+bodyVerdict b k = entriesVerdict b (bodyAt b k + bodyLengthAt b k) (bodyAt b k) (entryCountAt b k)
+
+-- the first refusal of the two, if there is one
+infixr 4 _andThen_
+abbrev pub _andThen_ : Verdict → Verdict → Verdict
+Accepted andThen v = v
+(Refused r) andThen v = Refused r
+
+-- the bodies from position k on, as many as are left
+unfoldable pub bodiesVerdict : List ℕ → ℕ → ℕ → Verdict
+bodiesVerdict b k zero = Accepted
+bodiesVerdict b k (suc left) = bodyVerdict b k andThen bodiesVerdict b (k + 1) left
+
+unfoldable pub tooLong : List ℕ → Bool
+tooLong b = any (λ k. ltb maxEntries (entryCountAt b k)) (range 0 (segmentCount b))
+
+unfoldable pub verdict : List ℕ → Verdict
+verdict b =
+    if ltb maxBook (length b) then Refused Oversize
+    else if ltb (length b) sizesSize then Refused Cut
+    else if ltb maxSegments (segmentCount b) then Refused Crowded
+    else if ltb (length b) (wholeLength b) then Refused Cut
+    else if ltb (wholeLength b) (length b) then Refused Surplus
+    else if tooLong b then Refused Long
+    else if not (eqb (lengthsBelow b (segmentCount b)) (bodyTotal b)) then Refused Misfit
+    else bodiesVerdict b 0 (segmentCount b)
+
+-- ---- the segments
+
+-- an entry with its peers
+pub record Entry : Type 0 where
+  pub own : AsEntry
+  pub peers : List PeerEntry
+
+pub record Segment : Type 0 where
+  pub core : Bool
+  pub position : ℕ
+  pub timestamp : ℕ
+  pub id : ℕ
+  pub body : List ℕ
+  pub entries : List Entry
+
+unfoldable pub isdAsnAt : List ℕ → ℕ → IsdAsn
+isdAsnAt b at = record { 0 = be64 b at }
+
+unfoldable pub macAt : List ℕ → ℕ → List ℕ
+macAt b at =
+    getD b at 0 ∷ getD b (at + 1) 0 ∷ getD b (at + 2) 0 ∷ getD b (at + 3) 0 ∷ getD b (at + 4) 0 ∷ getD b (at + 5) 0 ∷ []
+
+-- the entry at an offset: AS 8, AS MTU 4, ingress MTU 2, ingress 2, egress 2, units 1, MAC 6, peer count 1
+unfoldable pub asEntryAt : List ℕ → ℕ → AsEntry
+asEntryAt b at =
+    record {
+      local = isdAsnAt b at;
+      mtu = be32 b (at + 8);
+      «ingress_mtu» = be16 b (at + 12);
+      hop = record { ingress = be16 b (at + 14); egress = be16 b (at + 16); units = getD b (at + 18) 0; mac = macAt b (at + 19) };
+      peers = peerCount b at;
+    }
+
+-- the peer at an offset: peer AS 8, peer interface 2, peer MTU 2, units 1, ingress 2, egress 2, MAC 6
+unfoldable pub peerEntryAt : List ℕ → ℕ → PeerEntry
+peerEntryAt b at =
+    record {
+      peer = isdAsnAt b at;
+      interface = be16 b (at + 8);
+      mtu = be16 b (at + 10);
+      hop = record { units = getD b (at + 12) 0; ingress = be16 b (at + 13); egress = be16 b (at + 15); mac = macAt b (at + 17) };
+    }
+
+-- where peer p of the entry at an offset starts
+unfoldable pub peerAt : ℕ → ℕ → ℕ
+peerAt at p = at + entrySize + peerSize * p
+
+unfoldable pub entryAt : List ℕ → ℕ → Entry
+entryAt b at =
+    record {
+      own = asEntryAt b at;
+      peers = map (λ p. peerEntryAt b (peerAt at p)) (range 0 (peerCount b at));
+    }
+
+-- where entry i of a body that starts at an offset starts
+unfoldable pub entryOffset : List ℕ → ℕ → ℕ → ℕ
+entryOffset b at zero = at
+entryOffset b at (suc i) = entryEnd b (entryOffset b at i)
+
+-- as many entries from an offset on
+unfoldable pub entriesAt : List ℕ → ℕ → ℕ → List Entry
+entriesAt b at zero = []
+entriesAt b at (suc left) = entryAt b at ∷ entriesAt b (entryEnd b at) left
+
+unfoldable pub segmentAt : List ℕ → ℕ → Segment
+segmentAt b k =
+    record {
+      core = ltb k (cores b);
+      position = k;
+      timestamp = timestampAt b k;
+      id = idAt b k;
+      body = take (bodyLengthAt b k) (drop (bodyAt b k) b);
+      entries = entriesAt b (bodyAt b k) (entryCountAt b k);
+    }
+
+unfoldable pub segments : List ℕ → List Segment
+segments b = map (segmentAt b) (range 0 (segmentCount b))

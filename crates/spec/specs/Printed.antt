@@ -1,0 +1,107 @@
+-- What the program prints for its standard input: source 8, destination 8, then the book.
+-- Assumes nothing.
+use Prim.Native.Nat.{ℕ, zero, suc, _+_, _*_, _/_, _%_, _^_}
+use Prim.Native.Char.{code}
+use Prim.Native.String.{String}
+use mathlib.Core.Bool.{Bool, not, _||_}
+use mathlib.Core.List.{List, [], _∷_, _++_, flatMap}
+use lib.ListN.{length, drop}
+use lib.Dec.{ltb}
+use Rattle.spec.specs.declared.InfoField.{InfoField}
+use Rattle.spec.specs.declared.PathInterface.{PathInterface}
+use Rattle.spec.specs.declared.Edge.{Edge}
+use Rattle.spec.specs.declared.Refusal.{Refusal}
+use Rattle.spec.specs.declared.Refusal.the-variants.{Cut, Full}
+use Rattle.spec.specs.declared.Verdict.{Verdict}
+use Rattle.spec.specs.declared.Verdict.the-variants.{Accepted, Refused}
+use Rattle.spec.specs.Limits.{maxSlots}
+use Rattle.spec.specs.Basics.{if_then_else_, filter}
+use Rattle.spec.specs.Book.{verdict, isdAsnAt}
+use Rattle.spec.specs.Order.{cost, solutions}
+use Rattle.spec.specs.Assembly.{CombinedPath, combinedPath, isLoop, isBare}
+use Rattle.spec.specs.Records.{bit}
+use Rattle.spec.specs.Answers.{refusalNumber}
+
+-- ---- text
+
+unfoldable pub ascii : String → List ℕ
+ascii String.[] = []
+ascii (String._∷_ c s) = code c ∷ ascii s
+
+-- in base ten, of at most so many digits
+unfoldable pub decimalIn : ℕ → ℕ → List ℕ
+decimalIn zero n = []
+decimalIn (suc most) n =
+    let higher = decimalIn most (n / 10) in
+    (if ltb n 10 then [] else higher) ++ ((48 + n % 10) ∷ [])
+
+unfoldable pub decimal : ℕ → List ℕ
+decimal n = decimalIn 20 n
+
+-- in so many hex digits
+unfoldable pub hex : ℕ → ℕ → List ℕ
+hex zero n = []
+hex (suc k) n =
+    let digit : ℕ = n / 16 ^ k % 16 in
+    (if ltb digit 10 then 48 + digit else 87 + digit) ∷ hex k n
+
+-- a word, and a number in base ten after it
+unfoldable pub item : String → ℕ → List ℕ
+item word n = ascii word ++ decimal n
+
+unfoldable pub newline : List ℕ
+newline = 10 ∷ []
+
+-- ---- the lines
+
+-- flags, id (4 hex digits), timestamp
+unfoldable pub infoLine : InfoField → List ℕ
+infoLine i =
+    item "info " (bit (i .construction) + 2 * bit (i .peering)) ++ ascii " " ++ hex 4 (i .id) ++ item " " (i .timestamp) ++ newline
+
+-- AS (16 hex digits), id
+unfoldable pub interfaceLine : PathInterface → List ℕ
+interfaceLine i = ascii "if " ++ hex 16 (i .local .0) ++ item " " (i .id) ++ newline
+
+unfoldable pub pathLines : CombinedPath → List ℕ
+pathLines p =
+    item " mtu " (p .mtu) ++ item " expiry " (p .expiry) ++ item " hops " (length (p .hops)) ++ newline
+    ++ flatMap infoLine (p .infos)
+    ++ flatMap interfaceLine (p .interfaces)
+
+unfoldable pub outcomeLines : CombinedPath → List ℕ
+outcomeLines p =
+    if isLoop (p .interfaces) then ascii " loop" ++ newline
+    else if isBare (p .interfaces) then ascii " bare" ++ newline
+    else pathLines p
+
+-- its number, cost, edges, then the named fields, or loop or bare
+unfoldable pub solutionLines : List ℕ → ℕ → List Edge → List ℕ
+solutionLines b number c =
+    decimal number ++ item " cost " (cost c) ++ item " segments " (length c) ++ outcomeLines (combinedPath b c)
+
+unfoldable pub solutionsLines : List ℕ → ℕ → List (List Edge) → List ℕ
+solutionsLines b number [] = []
+solutionsLines b number (c ∷ cs) = solutionLines b number c ++ solutionsLines b (number + 1) cs
+
+unfoldable pub hasPath : List ℕ → List Edge → Bool
+hasPath b c = not (isLoop (combinedPath b c .interfaces) || isBare (combinedPath b c .interfaces))
+
+unfoldable pub refusedLine : Refusal → List ℕ
+refusedLine r = item "refused " (refusalNumber r) ++ newline
+
+unfoldable pub listLines : List ℕ → List (List Edge) → List ℕ
+listLines b found =
+    if ltb maxSlots (length found) then refusedLine Full
+    else item "solutions " (length found) ++ item " paths " (length (filter (hasPath b) found)) ++ newline
+    ++ solutionsLines b 1 found
+
+abbrev pub printedOn : Verdict → List ℕ → List (List Edge) → List ℕ
+printedOn Accepted b found = listLines b found
+printedOn (Refused r) b found = refusedLine r
+
+unfoldable pub printed : (List ℕ → List ℕ) → List ℕ → List ℕ
+printed digest input =
+    let b : List ℕ = drop 16 input in
+    if ltb (length input) 16 then refusedLine Cut
+    else printedOn (verdict b) b (solutions digest b (isdAsnAt input 0) (isdAsnAt input 8))

@@ -1,0 +1,100 @@
+-- The data draft's router, fed the infos and hops of a path record, and what demand 3 compares it with.
+-- Assumes nothing.
+use Prim.Native.Nat.{ℕ, _+_, _-_, _*_, _/_, _%_}
+use mathlib.Core.Path.{_≡_}
+use mathlib.Core.Bool.{Bool, true, false, _&&_, _||_}
+use mathlib.Core.List.{List, [], _∷_, _++_, map, flatMap}
+use lib.ListN.{length, getD, take, drop}
+use lib.Dec.{eqb}
+use Rattle.spec.specs.declared.HopField.{HopField}
+use Rattle.spec.specs.declared.InfoField.{InfoField}
+use Rattle.spec.specs.declared.Edge.{Edge}
+use Rattle.spec.specs.Limits.{pathHeadSize, infoSize, hopSize}
+use Rattle.spec.specs.Basics.{if_then_else_, range}
+use Rattle.spec.specs.Octets.{be16, be32}
+use Rattle.spec.specs.Book.{Segment, macAt}
+use Rattle.spec.specs.Assembly.{foldStep, idBelow, isPeerHop, isPeerEdge, hopOf, hopCount, segmentOf}
+
+-- ---- infos and hops of a path record's bytes
+
+unfoldable pub infoAt : List ℕ → ℕ → InfoField
+infoAt r at =
+    record {
+      construction = eqb (getD r at 0 % 2) 1;
+      peering = eqb (getD r at 0 / 2 % 2) 1;
+      hops = getD r (at + 1) 0;
+      id = be16 r (at + 2);
+      timestamp = be32 r (at + 4);
+    }
+
+unfoldable pub hopAt : List ℕ → ℕ → HopField
+hopAt r at = record { units = getD r at 0; ingress = be16 r (at + 1); egress = be16 r (at + 3); mac = macAt r (at + 5) }
+
+unfoldable pub infosIn : List ℕ → List InfoField
+infosIn r = map (λ k. infoAt r (pathHeadSize + infoSize * k)) (range 0 (getD r 0 0))
+
+unfoldable pub hopsIn : List ℕ → List HopField
+hopsIn r = map (λ k. hopAt r (pathHeadSize + infoSize * getD r 0 0 + hopSize * k)) (range 0 (getD r 1 0))
+
+-- ---- the router: the ids held at the hops, each at its use
+
+unfoldable pub isLast : List HopField → Bool
+isLast [] = true
+isLast (h ∷ hs) = false
+
+-- against construction: each regular hop after the info's first folds its MAC in before use; the last hop of a peering info is a peer hop
+unfoldable pub against : Bool → Bool → ℕ → List HopField → List ℕ
+against peering first id [] = []
+against peering first id (h ∷ hs) =
+    let held : ℕ = if first || (peering && isLast hs) then id else foldStep id h in
+    held ∷ against peering false held hs
+
+-- in construction direction: a regular hop folds its MAC in after use; the first hop of a peering info is a peer hop
+unfoldable pub along : Bool → ℕ → List HopField → List ℕ
+along peerHop id [] = []
+along peerHop id (h ∷ hs) = id ∷ along false (if peerHop then id else foldStep id h) hs
+
+unfoldable pub walkInfo : InfoField → List HopField → List ℕ
+walkInfo i hs = if i .construction then along (i .peering) (i .id) hs else against (i .peering) true (i .id) hs
+
+-- each info sets the id to its own and takes the next hops, as many as its hop count
+unfoldable pub route : List InfoField → List HopField → List ℕ
+route [] hs = []
+route (i ∷ is) hs = walkInfo i (take (i .hops) hs) ++ route is (drop (i .hops) hs)
+
+unfoldable pub routerIds : List ℕ → List ℕ
+routerIds r = route (infosIn r) (hopsIn r)
+
+-- ---- what it is compared with
+
+module _ (seg : Segment) (e : Edge) where
+  -- the entry m of hop j: m = n - 1 - j against construction, m = s + j in construction direction
+  unfoldable pub hopEntry : ℕ → ℕ
+  hopEntry j = if e .construction then e .shortcut + j else length (seg .entries) - 1 - j
+
+  -- of all hops, j from 0
+  unfoldable pub hopEntries : List ℕ
+  hopEntries = map hopEntry (range 0 (hopCount seg e))
+
+  -- the segment's id folded over the regular MACs of all entries below m, at a peer hop below m + 1
+  unfoldable pub idHeld : ℕ → ℕ
+  idHeld m = idBelow seg (if isPeerHop e m then m + 1 else m)
+
+-- an info without its id and timestamp
+pub record InfoShape : Type 0 where
+  pub construction : Bool
+  pub peering : Bool
+  pub hops : ℕ
+
+unfoldable pub shapeOf : InfoField → InfoShape
+shapeOf i = record { construction = i .construction; peering = i .peering; hops = i .hops }
+
+-- demand 3's comparison of a chain c of the book b with its path record r
+pub record RouterAgrees (b : List ℕ) (c : List Edge) (r : List ℕ) : Type 0 where
+  -- one info for each edge, in order, flagged construction exactly where the edge is in construction direction and peering exactly on a peer edge, with n - s hops
+  pub infos : map shapeOf (infosIn r)
+      ≡ map (λ e. record { construction = e .construction; peering = isPeerEdge e; hops = hopCount (segmentOf b e) e }) c
+  -- hop j of an info is that of its segment's entry m
+  pub hops : hopsIn r ≡ flatMap (λ e. map (hopOf (segmentOf b e) e) (hopEntries (segmentOf b e) e)) c
+  -- the id held there
+  pub held : routerIds r ≡ flatMap (λ e. map (idHeld (segmentOf b e) e) (hopEntries (segmentOf b e) e)) c
