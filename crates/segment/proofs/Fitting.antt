@@ -10,7 +10,7 @@ use lib.ListN.{length, getD, length-map}
 use Rattle.spec.specs.declared.Verdict.the-variants.{Accepted}
 use Rattle.spec.specs.Limits.{entrySize, maxBook, maxSegments}
 use Rattle.spec.specs.Basics.{range}
-use Rattle.spec.specs.Book.{Entry, segmentCount, entryCountAt, bodyAt, peerCount, entryEnd, peerAt, peerEntryAt, asEntryAt, entryAt, entryOffset, segmentAt, verdict}
+use Rattle.spec.specs.Book.{Entry, segmentCount, entryCountAt, bodyOffset, peerCount, entryEnd, peerOffset, peerEntryAt, asEntryAt, entryAt, entryOffset, segmentAt, verdict}
 use Rattle.spec.specs.Edges.{noPeer, entryOf, peerOf}
 use Rattle.spec.proofs.Lists.{length-range}
 use Rattle.spec.proofs.BookLaws.{AcceptedBook, accepted}
@@ -27,7 +27,7 @@ offset-next b at zero = refl
 offset-next b at (suc i) = ap (entryEnd b) (offset-next b at i)
 
 pub offset-small : (b : List ℕ) (a : AcceptedBook b) (k : ℕ) (h : k < segmentCount b) (i : ℕ) → i < entryCountAt b k
-    → entryOffset b (bodyAt b k) i + entrySize ≤ maxBook
+    → entryOffset b (bodyOffset b k) i + entrySize ≤ maxBook
 offset-small b a k h i l = omega (arith, entry-place b a k h i l .entry, body-end b a k h, a .small)
 
 pub position-small : (b : List ℕ) → verdict b ≡ Accepted → (k : ℕ) → k < segmentCount b → k < maxSegments
@@ -36,11 +36,11 @@ position-small b q k h = omega (arith, accepted b q .crowd)
 -- ---- what the definition's segments hold
 
 -- the entry itself is what `as_entry` reads there, and it has as many peers as it says
-pub own-read : (b : List ℕ) (k i : ℕ) → i < entryCountAt b k → entryOf (segmentAt b k) i .own ≡ asEntryAt b (entryOffset b (bodyAt b k) i)
+pub own-read : (b : List ℕ) (k i : ℕ) → i < entryCountAt b k → entryOf (segmentAt b k) i .own ≡ asEntryAt b (entryOffset b (bodyOffset b k) i)
 unfolding entryAt
 own-read b k i h = ap (λ (x : Entry). x .own) (entry-at b k i h)
 
-pub peers-read : (b : List ℕ) (k i : ℕ) → i < entryCountAt b k → length (entryOf (segmentAt b k) i .peers) ≡ peerCount b (entryOffset b (bodyAt b k) i)
+pub peers-read : (b : List ℕ) (k i : ℕ) → i < entryCountAt b k → length (entryOf (segmentAt b k) i .peers) ≡ peerCount b (entryOffset b (bodyOffset b k) i)
 unfolding entryAt
 peers-read b k i h = ap (λ (x : Entry). length (x .peers)) (entry-at b k i h) ∙ simp (length-map, length-range)
 
@@ -51,8 +51,8 @@ module _ {A : Type 0} (f : ℕ → A) where
   map-range-at j (suc n) zero d h = ap f (sym (add-zero j))
   map-range-at j (suc n) (suc i) d h = map-range-at (j + 1) n i d (omega arith) ∙ ap f (omega arith)
 
-pub peer-read : (b : List ℕ) (k i p : ℕ) → i < entryCountAt b k → p < peerCount b (entryOffset b (bodyAt b k) i)
-    → peerOf (segmentAt b k) i p ≡ peerEntryAt b (peerAt (entryOffset b (bodyAt b k) i) p)
+pub peer-read : (b : List ℕ) (k i p : ℕ) → i < entryCountAt b k → p < peerCount b (entryOffset b (bodyOffset b k) i)
+    → peerOf (segmentAt b k) i p ≡ peerEntryAt b (peerOffset (entryOffset b (bodyOffset b k) i) p)
 unfolding peerOf entryAt
 peer-read b k i p h l =
-    rw (entry-at b k i h) (map-range-at (λ q. peerEntryAt b (peerAt (entryOffset b (bodyAt b k) i) q)) 0 _ p noPeer l ∙ ap (λ q. peerEntryAt b (peerAt (entryOffset b (bodyAt b k) i) q)) (omega arith))
+    rw (entry-at b k i h) (map-range-at (λ q. peerEntryAt b (peerOffset (entryOffset b (bodyOffset b k) i) q)) 0 _ p noPeer l ∙ ap (λ q. peerEntryAt b (peerOffset (entryOffset b (bodyOffset b k) i) q)) (omega arith))

@@ -9,7 +9,7 @@ use native.Mathlib.Omega.{arith}
 use lib.ListN.{length, getD, take, drop, set, length-append, length-take}
 use lib.Seq.{paste, paste-suc, take-paste, length-paste, take-all}
 use Rattle.spec.specs.Octets.{Bytes, be16, be32, be64, octets2, octets4, octets8}
-use Rattle.spec.specs.Book.{Entry, entryCountAt, bodyAt, entryEnd, isdAsnAt, asEntryAt, entryAt, entriesAt, segmentAt}
+use Rattle.spec.specs.Book.{Entry, entryCountAt, bodyOffset, entryEnd, isdAsnAt, asEntryAt, entryAt, entriesAt, segmentAt}
 use Rattle.spec.specs.Order.{fingerprintInput}
 use Rattle.spec.proofs.Lists.{flatMap-append}
 use Rattle.spec.proofs.BookLaws.{be16-lt, be32-lt}
@@ -101,7 +101,7 @@ unfolding inputs flatMap
 inputs-more b at n =
     rw (add-one, entries-more b at n) (flatMap-append entryInput (entriesAt b at n) (entryAt b (entryOffset b at n) ∷ []) ∙ ap (λ l. flatMap entryInput (entriesAt b at n) ++ l) (append-nil _))
 
-pub inputs-all : (b : List ℕ) (k : ℕ) → fingerprintInput (segmentAt b k) ≡ inputs b (bodyAt b k) (entryCountAt b k)
+pub inputs-all : (b : List ℕ) (k : ℕ) → fingerprintInput (segmentAt b k) ≡ inputs b (bodyOffset b k) (entryCountAt b k)
 unfolding fingerprintInput segmentAt inputs entryInput
 inputs-all b k = refl
 

@@ -11,7 +11,7 @@ use lib.Seq.{drop-cons}
 use lib.Dec.{ltb, eqb}
 use borrow.Author.Tests.{lt-ltb, le-ltb, eq-eqb, ne-eqb, eqb-true}
 use Rattle.spec.specs.Basics.{if_then_else_, any, filter, range, sameList}
-use Rattle.spec.specs.Book.{Segment, cores, segmentCount, timestampAt, idAt, bodyLengthAt, bodyAt, segmentAt, segments}
+use Rattle.spec.specs.Book.{Segment, cores, segmentCount, timestampAt, idAt, bodyLengthAt, bodyOffset, segmentAt, segments}
 use Rattle.spec.specs.Edges.{sameBool, sameSegment, firsts}
 use Rattle.spec.proofs.BookLaws.{AcceptedBook}
 use Rattle.segment.specs.Same.{samePart, isFirst}
@@ -73,7 +73,7 @@ false-from false f = refl
 
 module _ (b : List ℕ) (j k : ℕ) where
   bodies : Bool
-  bodies = sameList (take (bodyLengthAt b j) (drop (bodyAt b j) b)) (take (bodyLengthAt b k) (drop (bodyAt b k) b))
+  bodies = sameList (take (bodyLengthAt b j) (drop (bodyOffset b j) b)) (take (bodyLengthAt b k) (drop (bodyOffset b k) b))
 
   whole : sameSegment (segmentAt b j) (segmentAt b k)
       ≡ (sameBool (ltb j (cores b)) (ltb k (cores b)) && eqb (timestampAt b j) (timestampAt b k) && eqb (idAt b j) (idAt b k) && bodies)
@@ -95,7 +95,7 @@ module _ (b : List ℕ) (j k : ℕ) where
         same-head : sameSegment (segmentAt b j) (segmentAt b k) ≡ bodies
         same-head = whole ∙ rw (kind, eq-eqb (timestampAt b j) (timestampAt b k) time, eq-eqb (idAt b j) (idAt b k) id)
 
-        pub by-bytes : bodyLengthAt b j ≡ bodyLengthAt b k → sameSegment (segmentAt b j) (segmentAt b k) ≡ samePart b (bodyAt b j) (bodyAt b k) (bodyLengthAt b j)
+        pub by-bytes : bodyLengthAt b j ≡ bodyLengthAt b k → sameSegment (segmentAt b j) (segmentAt b k) ≡ samePart b (bodyOffset b j) (bodyOffset b k) (bodyLengthAt b j)
         unfolding bodies samePart
         by-bytes h = same-head ∙ rw (← h)
 
@@ -105,7 +105,7 @@ module _ (b : List ℕ) (j k : ℕ) where
         other-length a u v h =
             same-head
             ∙ false-from bodies (λ q.
-            let e : length (take (bodyLengthAt b j) (drop (bodyAt b j) b)) ≡ length (take (bodyLengthAt b k) (drop (bodyAt b k) b)) = same-length _ _ q in
+            let e : length (take (bodyLengthAt b j) (drop (bodyOffset b j) b)) ≡ length (take (bodyLengthAt b k) (drop (bodyOffset b k) b)) = same-length _ _ q in
             h (omega (arith, simp (length-take, length-drop) at e, body-end b a j u, body-end b a k v)))
 
 -- ---- the first of equals

@@ -17,7 +17,7 @@ use Rattle.spec.specs.declared.Verdict.{Verdict}
 use Rattle.spec.specs.declared.Verdict.the-variants.{Accepted, Refused}
 use Rattle.spec.specs.Limits.{sizesSize, maxBook, maxSegments, maxEntries, maxPeers, entrySize}
 use Rattle.spec.specs.Basics.{if_then_else_, any, range}
-use Rattle.spec.specs.Book.{segmentCount, bodyTotal, headAt, entryCountAt, bodyLengthAt, lengthsBelow, bodyAt, wholeLength, peerCount, entryEnd, entriesVerdict, bodyVerdict, bodiesVerdict, tooLong, verdict}
+use Rattle.spec.specs.Book.{segmentCount, bodyTotal, headOffset, entryCountAt, bodyLengthAt, lengthsBelow, bodyOffset, wholeLength, peerCount, entryEnd, entriesVerdict, bodyVerdict, bodiesVerdict, tooLong, verdict}
 
 -- ---- the entries of a body
 
@@ -62,8 +62,8 @@ pub lengths-more : (b : List ℕ) (k : ℕ) → lengthsBelow b (k + 1) ≡ lengt
 unfolding lengthsBelow
 lengths-more b k = rw add-one
 
-pub body-more : (b : List ℕ) (k : ℕ) → bodyAt b (k + 1) ≡ bodyAt b k + bodyLengthAt b k
-unfolding bodyAt
+pub body-more : (b : List ℕ) (k : ℕ) → bodyOffset b (k + 1) ≡ bodyOffset b k + bodyLengthAt b k
+unfolding bodyOffset
 body-more b k = omega (arith, lengths-more b k)
 
 one-less : (n k : ℕ) → k < n → n - k ≡ suc (n - (k + 1))
@@ -71,7 +71,7 @@ one-less n k h = omega arith
 
 module _ (b : List ℕ) (n k : ℕ) where
   -- what the entries of the body at k say is what the body says
-  pub body-says : (at : ℕ) (v : Verdict) → at ≡ bodyAt b k → v ≡ entriesVerdict b (at + bodyLengthAt b k) at (entryCountAt b k) → bodyVerdict b k ≡ v
+  pub body-says : (at : ℕ) (v : Verdict) → at ≡ bodyOffset b k → v ≡ entriesVerdict b (at + bodyLengthAt b k) at (entryCountAt b k) → bodyVerdict b k ≡ v
   unfolding bodyVerdict
   body-says at v e q = cc
 

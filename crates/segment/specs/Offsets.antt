@@ -4,7 +4,7 @@ use Prim.Native.Nat.{ℕ, zero, suc, _+_, _*_}
 use mathlib.Core.List.{List}
 use lib.ListN.{set, replicate}
 use Rattle.spec.specs.Limits.{maxSegments, maxEntries}
-use Rattle.spec.specs.Book.{segmentCount, entryCountAt, bodyAt, entryOffset}
+use Rattle.spec.specs.Book.{segmentCount, entryCountAt, bodyOffset, entryOffset}
 
 -- the table with the offsets of the first n entries of a body, which starts at `at`, stored from `place` on
 unfoldable pub withRow : List ℕ → ℕ → ℕ → ℕ → List ℕ → List ℕ
@@ -14,7 +14,7 @@ withRow b at place (suc n) table = set (withRow b at place n table) (place + n) 
 -- the offsets of the entries of the bodies before position k: entry i of position j stands at 16 j + i, and elsewhere 0
 unfoldable pub rowsBelow : List ℕ → ℕ → List ℕ
 rowsBelow b zero = replicate (maxSegments * maxEntries) 0
-rowsBelow b (suc k) = withRow b (bodyAt b k) (maxEntries * k) (entryCountAt b k) (rowsBelow b k)
+rowsBelow b (suc k) = withRow b (bodyOffset b k) (maxEntries * k) (entryCountAt b k) (rowsBelow b k)
 
 unfoldable pub offsetTable : List ℕ → List ℕ
 offsetTable b = rowsBelow b (segmentCount b)

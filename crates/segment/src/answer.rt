@@ -2,7 +2,7 @@
 ghost use mathlib.Core.Path.{_≡_};
 ghost use Prim.Native.Nat.{ℕ, _+_, _*_, _^_, _≤_, _<_};
 ghost use lib.ListN.{length};
-ghost use Rattle.spec.specs.Book.{peerCount, entryEnd, entriesVerdict, bodiesVerdict, bodyAt, tooLong, verdict};
+ghost use Rattle.spec.specs.Book.{peerCount, entryEnd, entriesVerdict, bodiesVerdict, bodyOffset, tooLong, verdict};
 use crate::heads;
 use spec::AsEntry;
 use spec::PeerEntry;

@@ -3,7 +3,7 @@ ghost use mathlib.Core.Path.{_≡_};
 ghost use Prim.Native.Nat.{ℕ, _+_, _*_, _^_, _≤_, _<_};
 ghost use lib.ListN.{length};
 ghost use Rattle.spec.specs.declared.Verdict.the-variants.{Accepted};
-ghost use Rattle.spec.specs.Book.{isdAsnAt, macAt, asEntryAt, peerEntryAt, peerAt, verdict};
+ghost use Rattle.spec.specs.Book.{isdAsnAt, macAt, asEntryAt, peerEntryAt, peerOffset, verdict};
 ghost use Rattle.spec.specs.Book.{entryOffset};
 ghost use Rattle.segment.specs.Offsets.{withRow, offsetTable};
 use crate::answer;
@@ -89,7 +89,7 @@ pub fn peer_entry(book: &[u8], at: usize) -> PeerEntry
 pub fn peer_at(at: usize, p: usize) -> usize
     requires { ⌜ at < 2 ^ 47 ⌝ }
     requires { ⌜ p < 2 ^ 32 ⌝ }
-    ensures { λ r. ⌜ r ≡ peerAt at p ⌝ }
+    ensures { λ r. ⌜ r ≡ peerOffset at p ⌝ }
 {
     at + AsEntry::SIZE + PeerEntry::SIZE * p
 }

@@ -3,7 +3,7 @@ ghost use mathlib.Core.Path.{_≡_};
 ghost use Prim.Native.Nat.{ℕ, _+_, _*_, _^_, _≤_, _<_};
 ghost use lib.ListN.{length};
 ghost use Rattle.spec.specs.Octets.{be16};
-ghost use Rattle.spec.specs.Book.{cores, nonCores, bodyTotal, segmentCount, headAt, timestampAt, idAt, entryCountAt, bodyLengthAt, lengthsBelow, bodyAt, wholeLength};
+ghost use Rattle.spec.specs.Book.{cores, nonCores, bodyTotal, segmentCount, headOffset, timestampAt, idAt, entryCountAt, bodyLengthAt, lengthsBelow, bodyOffset, wholeLength};
 
 pub fn wide(x: u16) -> usize
     ensures { λ r. ⌜ (r ≡ x) × (r < 2 ^ 16) ⌝ }
@@ -38,7 +38,7 @@ pub fn segment_count(book: &[u8]) -> usize
 // Where the head at position k starts.
 pub fn head_at(k: usize) -> usize
     requires { ⌜ k < 2 ^ 60 ⌝ }
-    ensures { λ r. ⌜ (r ≡ headAt k) × (r ≡ 8 + 10 * k) ⌝ }
+    ensures { λ r. ⌜ (r ≡ headOffset k) × (r ≡ 8 + 10 * k) ⌝ }
 {
     8 + 10 * k
 }
@@ -46,7 +46,7 @@ pub fn head_at(k: usize) -> usize
 // Two bytes of the head at position k, from i on. Where k is 2 to the 60 or more, they lie past any slice.
 fn head16(book: &[u8], k: usize, i: usize) -> u16
     requires { ⌜ i < 256 ⌝ }
-    ensures { λ r. ⌜ r ≡ be16 (now (book .entry)) (headAt k + i) ⌝ }
+    ensures { λ r. ⌜ r ≡ be16 (now (book .entry)) (headOffset k + i) ⌝ }
 {
     if k < 1152921504606846976 {
         return octets::be16_past(book, head_at(k), i);
@@ -98,7 +98,7 @@ pub fn lengths_below(book: &[u8], k: usize) -> usize
 // Where the body at position k starts.
 pub fn body_at(book: &[u8], k: usize) -> usize
     requires { ⌜ k < 2 ^ 32 ⌝ }
-    ensures { λ r. ⌜ (r ≡ bodyAt (now (book .entry)) k) × (r < 2 ^ 21 + 65535 * k) ⌝ }
+    ensures { λ r. ⌜ (r ≡ bodyOffset (now (book .entry)) k) × (r < 2 ^ 21 + 65535 * k) ⌝ }
 {
     head_at(segment_count(book)) + lengths_below(book, k)
 }

@@ -1,9 +1,9 @@
 // The answers 1 to 7 of document 01 and the acceptances beside them, one line for each book: 0 for an
 // accepted one. The file `stdout` has what they must be.
 ghost use Prim.Native.Nat.{_≤_};
+use segment::answer;
 use spec::Refusal;
 use spec::Verdict;
-use segment::answer;
 
 fn number(v: Verdict) -> u64 {
     match v {

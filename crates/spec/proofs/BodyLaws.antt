@@ -13,7 +13,7 @@ use Rattle.spec.specs.declared.Refusal.the-variants.{Peers, Misfit}
 use Rattle.spec.specs.declared.Verdict.{Verdict}
 use Rattle.spec.specs.declared.Verdict.the-variants.{Accepted, Refused}
 use Rattle.spec.specs.Limits.{entrySize, peerSize, maxPeers}
-use Rattle.spec.specs.Book.{segmentCount, bodyTotal, wholeLength, headAt, lengthsBelow, bodyLengthAt, bodyAt, bodyVerdict, bodiesVerdict, entriesVerdict, _andThen_, entryCountAt, entryAt, entriesAt, entryOffset, entryEnd, peerCount, peerAt, segmentAt}
+use Rattle.spec.specs.Book.{segmentCount, bodyTotal, wholeLength, headOffset, lengthsBelow, bodyLengthAt, bodyOffset, bodyVerdict, bodiesVerdict, entriesVerdict, _andThen_, entryCountAt, entryAt, entriesAt, entryOffset, entryEnd, peerCount, peerOffset, segmentAt}
 use Rattle.spec.specs.Edges.{noEntry, entryOf}
 use Rattle.spec.proofs.BookLaws.{AcceptedBook, passed}
 
@@ -31,9 +31,9 @@ entries-getD b at (suc n) zero h = unfold entryOffset in refl
 entries-getD b at (suc n) (suc i) h = entries-getD b (entryEnd b at) n i (omega arith) ∙ ap (entryAt b) (offset-shift b at i)
 
 -- entry i of a segment is read at its offset
-pub entry-at : (b : List ℕ) (k i : ℕ) → i < entryCountAt b k → entryOf (segmentAt b k) i ≡ entryAt b (entryOffset b (bodyAt b k) i)
+pub entry-at : (b : List ℕ) (k i : ℕ) → i < entryCountAt b k → entryOf (segmentAt b k) i ≡ entryAt b (entryOffset b (bodyOffset b k) i)
 unfolding entryOf segmentAt
-entry-at b k i h = entries-getD b (bodyAt b k) (entryCountAt b k) i h
+entry-at b k i h = entries-getD b (bodyOffset b k) (entryCountAt b k) i h
 
 -- ---- an accepted body
 
@@ -104,28 +104,28 @@ module _ (b : List ℕ) (a : AcceptedBook b) (k : ℕ) (h : k < segmentCount b) 
   body-accepted = bodies-accepted b (segmentCount b) 0 (a .bodies) k (omega arith) (omega arith)
 
   -- a body is inside the book
-  pub body-end : bodyAt b k + bodyLengthAt b k ≤ length b
-  unfolding bodyAt wholeLength lengthsBelow
+  pub body-end : bodyOffset b k + bodyLengthAt b k ≤ length b
+  unfolding bodyOffset wholeLength lengthsBelow
   body-end =
       let m : lengthsBelow b k + bodyLengthAt b k ≤ lengthsBelow b (segmentCount b) = lengths-mono b (suc k) (segmentCount b) h in
-      let w : length b ≡ headAt (segmentCount b) + bodyTotal b = a .whole in
+      let w : length b ≡ headOffset (segmentCount b) + bodyTotal b = a .whole in
       let s = a .sum in
       omega arith
 
   -- entry i and its peers are inside the body
-  pub entry-place : (i : ℕ) → i < entryCountAt b k → GoodPlace b (bodyAt b k + bodyLengthAt b k) (entryOffset b (bodyAt b k) i)
+  pub entry-place : (i : ℕ) → i < entryCountAt b k → GoodPlace b (bodyOffset b k + bodyLengthAt b k) (entryOffset b (bodyOffset b k) i)
   unfolding bodyVerdict
-  entry-place i l = good-places b (bodyAt b k + bodyLengthAt b k) (entryCountAt b k) (bodyAt b k) body-accepted i l
+  entry-place i l = good-places b (bodyOffset b k + bodyLengthAt b k) (entryCountAt b k) (bodyOffset b k) body-accepted i l
 
   -- a peer is inside the body
-  pub peer-place : (i p : ℕ) → i < entryCountAt b k → p < peerCount b (entryOffset b (bodyAt b k) i)
-      → peerAt (entryOffset b (bodyAt b k) i) p + peerSize ≤ bodyAt b k + bodyLengthAt b k
-  unfolding peerAt entryEnd
+  pub peer-place : (i p : ℕ) → i < entryCountAt b k → p < peerCount b (entryOffset b (bodyOffset b k) i)
+      → peerOffset (entryOffset b (bodyOffset b k) i) p + peerSize ≤ bodyOffset b k + bodyLengthAt b k
+  unfolding peerOffset entryEnd
   peer-place i p l m =
       let g = entry-place i l in
       omega (arith, g .peers)
 
   -- the entries fill the body
-  pub body-filled : entryOffset b (bodyAt b k) (entryCountAt b k) ≡ bodyAt b k + bodyLengthAt b k
+  pub body-filled : entryOffset b (bodyOffset b k) (entryCountAt b k) ≡ bodyOffset b k + bodyLengthAt b k
   unfolding bodyVerdict
-  body-filled = filled b (bodyAt b k + bodyLengthAt b k) (entryCountAt b k) (bodyAt b k) (omega arith) body-accepted
+  body-filled = filled b (bodyOffset b k + bodyLengthAt b k) (entryCountAt b k) (bodyOffset b k) (omega arith) body-accepted

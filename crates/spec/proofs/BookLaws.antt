@@ -20,8 +20,8 @@ use Rattle.spec.specs.declared.Edge.{Edge}
 use Rattle.spec.specs.Limits.{sizesSize, maxBook, maxSegments, maxEntries}
 use Rattle.spec.specs.Basics.{if_then_else_, any, range}
 use Rattle.spec.specs.Octets.{Bytes, be16, be32}
-use Rattle.spec.specs.Book.{Entry, segmentCount, bodyTotal, wholeLength, lengthsBelow, tooLong, bodiesVerdict, verdict, macAt, asEntryAt, peerEntryAt, peerAt, peerCount, entryAt, entriesAt, entryEnd, segmentAt, segments, entryCountAt, bodyAt, idAt, timestampAt}
-use Rattle.spec.specs.Edges.{noEntry, noPeer, entryOf, peerOf, lasting, insertions, firsts, storedEdges}
+use Rattle.spec.specs.Book.{Entry, segmentCount, bodyTotal, wholeLength, lengthsBelow, isLong, tooLong, bodiesVerdict, verdict, macAt, asEntryAt, peerEntryAt, peerOffset, peerOfEntryAt, peerCount, entryAt, entriesAt, entryEnd, segmentAt, segments, entryCountAt, bodyOffset, idAt, timestampAt}
+use Rattle.spec.specs.Edges.{noEntry, noPeer, entryOf, peerOf, lasting, insertions, firsts, storedOf, storedEdges}
 use Rattle.spec.specs.Assembly.{foldStep, foldHops, idBelow, hopOf, hopsOf, infoOf, segmentOf, isPeerHop}
 use Rattle.spec.specs.Router.{hopEntries}
 use Rattle.spec.proofs.Membership.{not-both, filter-mem, map-mem, flatMap-mem}
@@ -87,9 +87,9 @@ any-none p xs q {x} m = go (p x) refl
     go false r = refl
 
 pub entry-count : (b : List ℕ) → AcceptedBook b → (k : ℕ) → k < segmentCount b → entryCountAt b k ≤ maxEntries
-unfolding tooLong
+unfolding tooLong isLong
 entry-count b a k h =
-    ltb-false _ _ (any-none (λ j. ltb maxEntries (entryCountAt b j)) (range 0 (segmentCount b)) (a .short) (mem-range 0 (segmentCount b) k (omega arith) (omega arith)))
+    ltb-false _ _ (any-none (isLong b) (range 0 (segmentCount b)) (a .short) (mem-range 0 (segmentCount b) k (omega arith) (omega arith)))
 
 length-entries : (b : List ℕ) (at n : ℕ) → length (entriesAt b at n) ≡ n
 unfolding entriesAt
@@ -98,7 +98,7 @@ length-entries b at (suc n) = ap suc (length-entries b (entryEnd b at) n)
 
 pub segment-length : (b : List ℕ) (k : ℕ) → length (segmentAt b k .entries) ≡ entryCountAt b k
 unfolding segmentAt
-segment-length b k = length-entries b (bodyAt b k) (entryCountAt b k)
+segment-length b k = length-entries b (bodyOffset b k) (entryCountAt b k)
 
 -- a stored edge is of a segment of the book
 pub record Stored (b : List ℕ) (e : Edge) : Type 0 where
@@ -106,9 +106,9 @@ pub record Stored (b : List ℕ) (e : Edge) : Type 0 where
   pub edge : Inserted (segmentOf b e) e
 
 pub stored : (b : List ℕ) {e : Edge} → Mem e (storedEdges b) → Stored b e
-unfolding storedEdges firsts segments segmentOf
+unfolding storedEdges storedOf firsts segments segmentOf
 stored b {e} m =
-    let w = flatMap-mem (λ s. lasting (insertions s)) (firsts (segments b)) m in
+    let w = flatMap-mem storedOf (firsts (segments b)) m in
     let f = filter-mem _ (segments b) (w .1) in
     let s = map-mem (segmentAt b) (range 0 (segmentCount b)) (f .0) in
     let i : Inserted (segmentAt b (s .0)) e = subst (λ x. Inserted x e) (s .2) (inserted (w .0) (lasting-mem (insertions (w .0)) (w .2))) in
@@ -162,14 +162,14 @@ no-peer-good = good-peer [] no-bytes 0
 
 module _ (b : List ℕ) (bytes : Bytes b) where
   entry-good : (at : ℕ) → GoodEntry (entryAt b at)
-  unfolding entryAt
+  unfolding entryAt peerOfEntryAt
   entry-good at =
       record {
         own = good-own b bytes at;
-        peers = each-getD (λ p. GoodHop (p .hop)) (map (λ p. peerEntryAt b (peerAt at p)) (range 0 (peerCount b at))) noPeer no-peer-good
+        peers = each-getD (λ p. GoodHop (p .hop)) (map (peerOfEntryAt b at) (range 0 (peerCount b at))) noPeer no-peer-good
             (λ p m.
-            let w = map-mem (λ p. peerEntryAt b (peerAt at p)) (range 0 (peerCount b at)) m in
-            subst (λ (x : PeerEntry). GoodHop (x .hop)) (sym (w .2)) (good-peer b bytes (peerAt at (w .0))));
+            let w = map-mem (peerOfEntryAt b at) (range 0 (peerCount b at)) m in
+            subst (λ (x : PeerEntry). GoodHop (x .hop)) (sym (w .2)) (good-peer b bytes (peerOffset at (w .0))));
       }
 
 no-entry-good : GoodEntry noEntry
@@ -194,7 +194,7 @@ module _ (b : List ℕ) (bytes : Bytes b) where
 
   entry-of-good : (k i : ℕ) → GoodEntry (entryOf (segmentAt b k) i)
   unfolding entryOf segmentAt
-  entry-of-good k i = each-getD GoodEntry (entriesAt b (bodyAt b k) (entryCountAt b k)) noEntry no-entry-good (λ x m. entries-good (bodyAt b k) (entryCountAt b k) m) i
+  entry-of-good k i = each-getD GoodEntry (entriesAt b (bodyOffset b k) (entryCountAt b k)) noEntry no-entry-good (λ x m. entries-good (bodyOffset b k) (entryCountAt b k) m) i
 
   pub hop-good : (k : ℕ) (e : Edge) (i : ℕ) → GoodHop (hopOf (segmentAt b k) e i)
   unfolding hopOf peerOf
@@ -214,8 +214,8 @@ module _ (b : List ℕ) (bytes : Bytes b) where
   id-lt k n =
       fold-lt _ _ (be16-lt b bytes _)
       (λ h m.
-      let w = map-mem (λ (x : Entry). x .own .hop) (take n (entriesAt b (bodyAt b k) (entryCountAt b k))) m in
-      let g : GoodEntry (w .0) = entries-good (bodyAt b k) (entryCountAt b k) (take-mem n (entriesAt b (bodyAt b k) (entryCountAt b k)) (w .1)) in
+      let w = map-mem (λ (x : Entry). x .own .hop) (take n (entriesAt b (bodyOffset b k) (entryCountAt b k))) m in
+      let g : GoodEntry (w .0) = entries-good (bodyOffset b k) (entryCountAt b k) (take-mem n (entriesAt b (bodyOffset b k) (entryCountAt b k)) (w .1)) in
       subst (λ (x : HopField). be16 (x .mac) 0 < 2 ^ 16) (sym (w .2)) (g .own .word))
 
   pub info-good : (k : ℕ) (e : Edge) → GoodInfo (infoOf (segmentAt b k) e)

@@ -14,9 +14,9 @@ use Rattle.spec.specs.declared.PathInterface.{PathInterface}
 use Rattle.spec.specs.declared.Edge.{Edge}
 use Rattle.spec.specs.Limits.{maxEdges, maxEntries, maxPeers, maxSegments, pathSize, pathHeadSize, infoSize, hopSize, interfaceSize}
 use Rattle.spec.specs.Basics.{if_then_else_, range, sum}
-use Rattle.spec.specs.Order.{cost}
+use Rattle.spec.specs.Order.{weightOf, cost}
 use Rattle.spec.specs.Octets.{Bytes, octets2, octets4, octets8}
-use Rattle.spec.specs.Book.{Segment, entryCountAt, entryAt, entryOffset, bodyAt, peerCount, peerEntryAt, peerAt, segmentAt}
+use Rattle.spec.specs.Book.{Segment, entryCountAt, entryAt, entryOffset, bodyOffset, peerCount, peerOfEntryAt, segmentAt}
 use Rattle.spec.specs.Edges.{entryOf}
 use Rattle.spec.specs.Assembly.{hopCount, usedEntries, interfaceIf, interfacesAt, interfacesOf, inDirection, hopsOf, infoOf, segmentOf, CombinedPath, combinedPath}
 use Rattle.spec.specs.Records.{infoOctets, hopOctets, asOctets, pathOctets}
@@ -39,7 +39,7 @@ pub record EdgeBounds (b : List ℕ) (e : Edge) : Type 0 where
 
 entry-peers : (b : List ℕ) (at : ℕ) → length (entryAt b at .peers) ≡ peerCount b at
 unfolding entryAt
-entry-peers b at = length-map (range 0 (peerCount b at)) (λ p. peerEntryAt b (peerAt at p)) ∙ length-range 0 (peerCount b at)
+entry-peers b at = length-map (range 0 (peerCount b at)) (peerOfEntryAt b at) ∙ length-range 0 (peerCount b at)
 
 pub edge-bounds : (b : List ℕ) → AcceptedBook b → (e : Edge) → Stored b e → EdgeBounds b e
 unfolding segmentOf hopCount
@@ -50,10 +50,10 @@ edge-bounds b a e s =
     let i : e .shortcut < length (segmentAt b k .entries) = s .edge .shortcut in
     let j : e .shortcut < entryCountAt b k = omega arith in
     let g = entry-place b a k (s .position) (e .shortcut) j in
-    let f : peerCount b (entryOffset b (bodyAt b k) (e .shortcut)) ≤ maxPeers = g .few in
+    let f : peerCount b (entryOffset b (bodyOffset b k) (e .shortcut)) ≤ maxPeers = g .few in
     let p : e .peer ≤ length (entryOf (segmentAt b k) (e .shortcut) .peers) = s .edge .peer in
-    let q : length (entryOf (segmentAt b k) (e .shortcut) .peers) ≡ peerCount b (entryOffset b (bodyAt b k) (e .shortcut)) =
-    ap (λ x. length (x .peers)) (entry-at b k (e .shortcut) j) ∙ entry-peers b (entryOffset b (bodyAt b k) (e .shortcut)) in
+    let q : length (entryOf (segmentAt b k) (e .shortcut) .peers) ≡ peerCount b (entryOffset b (bodyOffset b k) (e .shortcut)) =
+    ap (λ x. length (x .peers)) (entry-at b k (e .shortcut) j) ∙ entry-peers b (entryOffset b (bodyOffset b k) (e .shortcut)) in
     record {
       position = omega (arith, s .position, a .crowd);
       shortcut = omega arith;
@@ -64,7 +64,7 @@ edge-bounds b a e s =
 
 -- a chain's cost, from its edges' weights
 pub cost-most : (b : List ℕ) (c : List Edge) → ((e : Edge) → Mem e c → EdgeBounds b e) → cost c ≤ length c * maxEntries
-unfolding cost sum
+unfolding cost sum weightOf
 cost-most b [] h = zero-le
 cost-most b (e ∷ c) h = omega (arith, suc-mul (length c) maxEntries, h e (head refl) .weight, cost-most b c (λ f m. h f (tail m)))
 

@@ -191,14 +191,14 @@ pub all-right : (digest : List ℕ → List ℕ) → T (every (right digest) tab
 unfolding table every right answer flatMap
     Basics.any Basics.filter Basics.range Basics.sum Basics.sameList Basics.padded
     Octets.be16 Octets.be32 Octets.be64 Octets.octets2 Octets.octets4 Octets.octets8
-    Book.cores Book.nonCores Book.bodyTotal Book.segmentCount Book.headAt Book.timestampAt Book.idAt Book.entryCountAt Book.bodyLengthAt
-    Book.lengthsBelow Book.bodyAt Book.wholeLength Book.peerCount Book.entryEnd Book.entriesVerdict Book.bodyVerdict Book.bodiesVerdict
-    Book.tooLong Book.verdict Book.isdAsnAt Book.macAt Book.asEntryAt Book.peerEntryAt Book.peerAt Book.entryAt Book.entriesAt Book.segmentAt Book.segments
+    Book.cores Book.nonCores Book.bodyTotal Book.segmentCount Book.headOffset Book.timestampAt Book.idAt Book.entryCountAt Book.bodyLengthAt
+    Book.lengthsBelow Book.bodyOffset Book.wholeLength Book.peerCount Book.entryEnd Book.entriesVerdict Book.bodyVerdict Book.bodiesVerdict
+    Book.isLong Book.tooLong Book.verdict Book.isdAsnAt Book.macAt Book.asEntryAt Book.peerEntryAt Book.peerOffset Book.peerOfEntryAt Book.entryAt Book.entriesAt Book.segmentAt Book.segments
     Edges.sameAs Edges.sameVertex Edges.noEntry Edges.noPeer Edges.entryOf Edges.asOf Edges.leafAs Edges.peerOf Edges.edgeOf Edges.coreInsertions
     Edges.asInsertions Edges.peerInsertions Edges.entryInsertions Edges.insertions Edges.sameEnds Edges.lasting Edges.sameBool Edges.sameSegment
-    Edges.firsts Edges.storedEdges
-    Chains.allowedKinds Chains.leaving Chains.beginning Chains.walks Chains.chains
-    Order.compareBy Order.solutionEdge Order.cost Order.insertAll Order.insert Order.solutions
+    Edges.inConstruction Edges.isEarlier Edges.isFirst Edges.firsts Edges.storedOf Edges.storedEdges
+    Chains.allowedKinds Chains.leaves Chains.leaving Chains.beginning Chains.walks Chains.chains
+    Order.compareBy Order.solutionEdge Order.weightOf Order.cost Order.insertAll Order.insert Order.solutions
     Assembly.least Assembly.isPeerEdge Assembly.atShortcut Assembly.isPeerHop Assembly.hopCount Assembly.usedEntries Assembly.hopOf Assembly.mtusAt
     Assembly.interfaceIf Assembly.interfacesAt Assembly.inDirection Assembly.foldStep Assembly.foldHops Assembly.idBelow Assembly.stopAt Assembly.life Assembly.hopsOf
     Assembly.interfacesOf Assembly.mtusOf Assembly.infoOf Assembly.expiryOf Assembly.segmentOf Assembly.combinedPath Assembly.timesOf Assembly.isLoop Assembly.isBare

@@ -16,7 +16,7 @@ use Rattle.spec.specs.declared.Edge.{Edge}
 use Rattle.spec.specs.Limits.{maxEdges}
 use Rattle.spec.specs.Basics.{if_then_else_, filter}
 use Rattle.spec.specs.Edges.{sameAs, sameVertex, storedEdges}
-use Rattle.spec.specs.Chains.{allowedKinds, Leads, IsChain, leaving, beginning, walks, chains}
+use Rattle.spec.specs.Chains.{allowedKinds, Leads, IsChain, leaves, leaving, beginning, walks, chains}
 use Rattle.spec.proofs.Membership.{T-true, true-T, not-both, filter-mem, mem-filter, map-mem, mem-map, flatMap-mem, mem-flatMap}
 use Rattle.spec.proofs.Vertices.{sameAs-eq, sameAs-refl, sameVertex-eq, eq-sameVertex}
 
@@ -49,11 +49,11 @@ module _ (edges : List Edge) (goal : Vertex) where
   same-walk {at} q w = subst (λ x. Walk edges goal at x) (sym q) w
 
   pub walks-sound : (most : ℕ) (at : Vertex) (c : List Edge) → Mem c (walks most edges goal at) → Walk edges goal at c
-  unfolding walks leaving beginning
+  unfolding walks leaving leaves beginning
   walks-sound zero at c m = absurd (not-nil m)
   walks-sound (suc most) at c m =
       let w = flatMap-mem (beginning (walks most edges goal) goal) (leaving at edges) m in
-      let f = filter-mem (λ e. sameVertex (e .src) at) edges (w .1) in
+      let f = filter-mem (leaves at) edges (w .1) in
       go (walks-sound most) (w .0) (f .0) (sameVertex-eq (w .0 .src) at (f .1)) (sameVertex (w .0 .dst) goal) refl (w .2)
     where
       go : ((v : Vertex) (d : List Edge) → Mem d (walks most edges goal v) → Walk edges goal v d)
@@ -74,13 +74,13 @@ module _ (edges : List Edge) (goal : Vertex) where
   -- ---- and each walk is listed
 
   pub walks-complete : (most : ℕ) (at : Vertex) (c : List Edge) → length c ≤ most → Walk edges goal at c → Mem c (walks most edges goal at)
-  unfolding walks leaving beginning
+  unfolding walks leaving leaves beginning
   walks-complete zero at [] h w = absurd (w .leads)
   walks-complete zero at (e ∷ c) h w = absurd (not-suc-le-zero h)
   walks-complete (suc most) at [] h w = absurd (w .leads)
   walks-complete (suc most) at (e ∷ []) h w =
       mem-flatMap (beginning (walks most edges goal) goal)
-      (mem-filter (λ e. sameVertex (e .src) at) edges (w .among e (head refl)) (eq-sameVertex (e .src) at (w .leads .0)))
+      (mem-filter (leaves at) edges (w .among e (head refl)) (eq-sameVertex (e .src) at (w .leads .0)))
       (arrived (sameVertex (e .dst) goal) (eq-sameVertex (e .dst) goal (w .leads .1)))
     where
       arrived : (t : Bool) → t ≡ true → Mem (e ∷ []) (if t then (e ∷ []) ∷ [] else map (λ es. e ∷ es) (walks most edges goal (e .dst)))
@@ -88,7 +88,7 @@ module _ (edges : List Edge) (goal : Vertex) where
       arrived false q = absurd (false≢true q)
   walks-complete (suc most) at (e ∷ f ∷ c) h w =
       mem-flatMap (beginning (walks most edges goal) goal)
-      (mem-filter (λ e. sameVertex (e .src) at) edges (w .among e (head refl)) (eq-sameVertex (e .src) at (w .leads .0)))
+      (mem-filter (leaves at) edges (w .among e (head refl)) (eq-sameVertex (e .src) at (w .leads .0)))
       (onward (sameVertex (e .dst) goal) refl
       (walks-complete most (e .dst) (f ∷ c) (le-of-suc-le-suc h) (record { among = λ g k. w .among g (tail k); leads = w .leads .2 })))
     where

@@ -16,7 +16,7 @@ use Rattle.spec.specs.declared.Edge.{Edge}
 use Rattle.spec.specs.Limits.{maxEdges}
 use Rattle.spec.specs.Basics.{if_then_else_, any, filter, range}
 use Rattle.spec.specs.Book.{Segment, segmentAt, segments, segmentCount}
-use Rattle.spec.specs.Edges.{sameAs, sameVertex, sameEnds, edgeOf, coreInsertions, asInsertions, peerInsertions, entryInsertions, insertions, lasting, firsts, storedEdges, entryOf, asOf, leafAs}
+use Rattle.spec.specs.Edges.{sameAs, sameVertex, sameEnds, inConstruction, edgeOf, coreInsertions, asInsertions, peerInsertions, entryInsertions, insertions, lasting, firsts, storedOf, storedEdges, entryOf, asOf, leafAs}
 use Rattle.spec.specs.Chains.{allowedKinds, IsChain, leaving, beginning, walks, chains}
 use Rattle.spec.specs.Order.{compareChains, isLt, insert, insertAll, solutions}
 use Rattle.spec.proofs.Membership.{not-both, true-and, filter-mem, map-mem, flatMap-mem, Once, once-filter, once-map, once-flatMap}
@@ -108,7 +108,7 @@ lasting-stands (f ∷ before) e later q = go (any (sameEnds f) (before ++ e ∷ 
 pub record Inserted (seg : Segment) (e : Edge) : Type 0 where
   pub position : e .position ≡ seg .position
   pub kind : e .core ≡ seg .core
-  pub direction : e .construction ≡ sameVertex (e .dst) (AS (leafAs seg))
+  pub direction : e .construction ≡ inConstruction seg (e .dst)
   pub weight : e .weight ≤ length (seg .entries)
   pub shortcut : e .shortcut < length (seg .entries)
   pub peer : e .peer ≤ length (entryOf seg (e .shortcut) .peers)
@@ -213,9 +213,9 @@ same-position b x y k l q =
     u .2 ∙ ap (segmentAt b) p ∙ sym (v .2)
 
 pub once-stored : (b : List ℕ) → Once (storedEdges b)
-unfolding storedEdges firsts segments
+unfolding storedEdges storedOf firsts segments
 once-stored b =
-    once-flatMap (λ s. lasting (insertions s)) (λ s. once-lasting (insertions s)) (firsts (segments b))
+    once-flatMap storedOf (λ s. once-lasting (insertions s)) (firsts (segments b))
     (once-filter _ (segments b) (once-map (segmentAt b) (λ x y q. sym (segment-position b x) ∙ ap (λ (s : Segment). s .position) q ∙ segment-position b y) (range 0 (segmentCount b)) (once-range 0 (segmentCount b))))
     (λ x y k l z p q.
     same-position b x y (filter-mem _ (segments b) k .0) (filter-mem _ (segments b) l .0)

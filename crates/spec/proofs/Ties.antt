@@ -13,7 +13,7 @@ use Rattle.spec.specs.declared.Vertex.the-variants.{AS, Peering}
 use Rattle.spec.specs.declared.Edge.{Edge}
 use Rattle.spec.specs.Basics.{if_then_else_, range}
 use Rattle.spec.specs.Book.{Segment, segments}
-use Rattle.spec.specs.Edges.{entryOf, asOf, leafAs, peerOf, edgeOf, coreInsertions, asInsertions, peerInsertions, entryInsertions, insertions, lasting, firsts, storedEdges}
+use Rattle.spec.specs.Edges.{entryOf, asOf, leafAs, peerOf, edgeOf, coreInsertions, asInsertions, peerInsertions, entryInsertions, insertions, lasting, firsts, storedOf, storedEdges}
 use Rattle.spec.specs.Chains.{Leads}
 use Rattle.spec.proofs.Membership.{filter-mem, flatMap-mem}
 use Rattle.spec.proofs.ChainLaws.{Among}
@@ -132,10 +132,10 @@ pub record SameKeys (e f : Edge) : Type 0 where
   pub peer : e .peer ≡ f .peer
 
 pub same-stored : (b : List ℕ) {e f : Edge} → Mem e (storedEdges b) → Mem f (storedEdges b) → SameKeys e f → e .src ≡ f .src → e ≡ f
-unfolding storedEdges firsts
+unfolding storedEdges storedOf firsts
 same-stored b {e} {f} k l s h =
-    let u = flatMap-mem (λ s. lasting (insertions s)) (firsts (segments b)) k in
-    let v = flatMap-mem (λ s. lasting (insertions s)) (firsts (segments b)) l in
+    let u = flatMap-mem storedOf (firsts (segments b)) k in
+    let v = flatMap-mem storedOf (firsts (segments b)) l in
     let p = lasting-mem (insertions (u .0)) (u .2) in
     let q = lasting-mem (insertions (v .0)) (v .2) in
     let one : u .0 ≡ v .0 =

@@ -1,5 +1,5 @@
 -- The book: its sizes and heads, the answer about it alone, and the segments that an accepted one holds.
--- Everything is read at its offset in the book's bytes.
+-- Everything is read at its offset in the book's bytes: a name that ends in `Offset` is a place, one that ends in `At` a value read at a place.
 -- Assumes nothing.
 use Prim.Native.Nat.{ℕ, zero, suc, _+_, _*_}
 use mathlib.Core.Bool.{Bool, not}
@@ -12,7 +12,7 @@ use Rattle.spec.specs.declared.PeerEntry.{PeerEntry}
 use Rattle.spec.specs.declared.Refusal.the-variants.{Cut, Surplus, Oversize, Crowded, Long, Peers, Misfit}
 use Rattle.spec.specs.declared.Verdict.{Verdict}
 use Rattle.spec.specs.declared.Verdict.the-variants.{Accepted, Refused}
-use Rattle.spec.specs.Limits.{sizesSize, headSize, entrySize, peerSize, peerCountAt, maxBook, maxSegments, maxEntries, maxPeers}
+use Rattle.spec.specs.Limits.{sizesSize, headSize, entrySize, peerSize, peerCountOffset, maxBook, maxSegments, maxEntries, maxPeers}
 use Rattle.spec.specs.Basics.{if_then_else_, any, range}
 use Rattle.spec.specs.Octets.{be16, be32, be64}
 
@@ -33,20 +33,20 @@ unfoldable pub segmentCount : List ℕ → ℕ
 segmentCount b = cores b + nonCores b
 
 -- where the head of the segment at position k starts, and its four fields
-unfoldable pub headAt : ℕ → ℕ
-headAt k = sizesSize + headSize * k
+unfoldable pub headOffset : ℕ → ℕ
+headOffset k = sizesSize + headSize * k
 
 unfoldable pub timestampAt : List ℕ → ℕ → ℕ
-timestampAt b k = be32 b (headAt k)
+timestampAt b k = be32 b (headOffset k)
 
 unfoldable pub idAt : List ℕ → ℕ → ℕ
-idAt b k = be16 b (headAt k + 4)
+idAt b k = be16 b (headOffset k + 4)
 
 unfoldable pub entryCountAt : List ℕ → ℕ → ℕ
-entryCountAt b k = be16 b (headAt k + 6)
+entryCountAt b k = be16 b (headOffset k + 6)
 
 unfoldable pub bodyLengthAt : List ℕ → ℕ → ℕ
-bodyLengthAt b k = be16 b (headAt k + 8)
+bodyLengthAt b k = be16 b (headOffset k + 8)
 
 -- the bytes of the bodies before position k
 unfoldable pub lengthsBelow : List ℕ → ℕ → ℕ
@@ -54,23 +54,24 @@ lengthsBelow b zero = 0
 lengthsBelow b (suc k) = lengthsBelow b k + bodyLengthAt b k
 
 -- where the body at position k starts
-unfoldable pub bodyAt : List ℕ → ℕ → ℕ
-bodyAt b k = headAt (segmentCount b) + lengthsBelow b k
+unfoldable pub bodyOffset : List ℕ → ℕ → ℕ
+bodyOffset b k = headOffset (segmentCount b) + lengthsBelow b k
 
 -- the length that the sizes ask for
 unfoldable pub wholeLength : List ℕ → ℕ
-wholeLength b = headAt (segmentCount b) + bodyTotal b
+wholeLength b = headOffset (segmentCount b) + bodyTotal b
 
 -- ---- the answer about the book alone
 
 unfoldable pub peerCount : List ℕ → ℕ → ℕ
-peerCount b at = getD b (at + peerCountAt) 0
+peerCount b at = getD b (at + peerCountOffset) 0
 
 -- past the entry at an offset and its peers
 unfoldable pub entryEnd : List ℕ → ℕ → ℕ
 entryEnd b at = at + entrySize + peerSize * peerCount b at
 
--- the entries of a body from an offset on, as many as are left; the body ends at `end`
+-- the entries of a body from an offset on, as many as are left; the body ends at `end`. At each entry: Misfit if its own bytes are
+-- lacking, Peers, Misfit if its peers are lacking; after the last entry Misfit if bytes remain
 unfoldable pub entriesVerdict : List ℕ → ℕ → ℕ → ℕ → Verdict
 entriesVerdict b end at zero = if ltb at end then Refused Misfit else Accepted
 entriesVerdict b end at (suc left) =
@@ -80,8 +81,9 @@ entriesVerdict b end at (suc left) =
     else if ltb end (entryEnd b at) then Refused Misfit
     else next
 
+-- the body at position k: as many entries as its head says, in as many bytes
 unfoldable pub bodyVerdict : List ℕ → ℕ → Verdict
-bodyVerdict b k = entriesVerdict b (bodyAt b k + bodyLengthAt b k) (bodyAt b k) (entryCountAt b k)
+bodyVerdict b k = entriesVerdict b (bodyOffset b k + bodyLengthAt b k) (bodyOffset b k) (entryCountAt b k)
 
 -- the first refusal of the two, if there is one
 infixr 4 _andThen_
@@ -94,9 +96,15 @@ unfoldable pub bodiesVerdict : List ℕ → ℕ → ℕ → Verdict
 bodiesVerdict b k zero = Accepted
 bodiesVerdict b k (suc left) = bodyVerdict b k andThen bodiesVerdict b (k + 1) left
 
-unfoldable pub tooLong : List ℕ → Bool
-tooLong b = any (λ k. ltb maxEntries (entryCountAt b k)) (range 0 (segmentCount b))
+-- the head at position k has an entry count above the limit
+unfoldable pub isLong : List ℕ → ℕ → Bool
+isLong b k = ltb maxEntries (entryCountAt b k)
 
+-- some head of the book is
+unfoldable pub tooLong : List ℕ → Bool
+tooLong b = any (isLong b) (range 0 (segmentCount b))
+
+-- the tests in their order: 3, 1 (8 bytes), 4, 1, 2, 5 over all heads, 7 (sum), bodies by position
 unfoldable pub verdict : List ℕ → Verdict
 verdict b =
     if ltb maxBook (length b) then Refused Oversize
@@ -115,6 +123,7 @@ pub record Entry : Type 0 where
   pub own : AsEntry
   pub peers : List PeerEntry
 
+-- a segment, with the position at which it stands and its body's bytes, by which equal segments are told
 pub record Segment : Type 0 where
   pub core : Bool
   pub position : ℕ
@@ -152,14 +161,19 @@ peerEntryAt b at =
     }
 
 -- where peer p of the entry at an offset starts
-unfoldable pub peerAt : ℕ → ℕ → ℕ
-peerAt at p = at + entrySize + peerSize * p
+unfoldable pub peerOffset : ℕ → ℕ → ℕ
+peerOffset at p = at + entrySize + peerSize * p
 
+-- peer p of the entry at an offset
+unfoldable pub peerOfEntryAt : List ℕ → ℕ → ℕ → PeerEntry
+peerOfEntryAt b at p = peerEntryAt b (peerOffset at p)
+
+-- the entry at an offset, with its peers
 unfoldable pub entryAt : List ℕ → ℕ → Entry
 entryAt b at =
     record {
       own = asEntryAt b at;
-      peers = map (λ p. peerEntryAt b (peerAt at p)) (range 0 (peerCount b at));
+      peers = map (peerOfEntryAt b at) (range 0 (peerCount b at));
     }
 
 -- where entry i of a body that starts at an offset starts
@@ -172,6 +186,7 @@ unfoldable pub entriesAt : List ℕ → ℕ → ℕ → List Entry
 entriesAt b at zero = []
 entriesAt b at (suc left) = entryAt b at ∷ entriesAt b (entryEnd b at) left
 
+-- the segment at position k; cores come first
 unfoldable pub segmentAt : List ℕ → ℕ → Segment
 segmentAt b k =
     record {
@@ -179,9 +194,10 @@ segmentAt b k =
       position = k;
       timestamp = timestampAt b k;
       id = idAt b k;
-      body = take (bodyLengthAt b k) (drop (bodyAt b k) b);
-      entries = entriesAt b (bodyAt b k) (entryCountAt b k);
+      body = take (bodyLengthAt b k) (drop (bodyOffset b k) b);
+      entries = entriesAt b (bodyOffset b k) (entryCountAt b k);
     }
 
+-- all segments, by position
 unfoldable pub segments : List ℕ → List Segment
 segments b = map (segmentAt b) (range 0 (segmentCount b))

@@ -37,8 +37,11 @@ pub record IsChain (b : List ℕ) (src dst : IsdAsn) (c : List Edge) : Type 0 wh
 
 -- ---- the list of all chains
 
+unfoldable pub leaves : Vertex → Edge → Bool
+leaves v e = sameVertex (e .src) v
+
 unfoldable pub leaving : Vertex → List Edge → List Edge
-leaving v edges = filter (λ e. sameVertex (e .src) v) edges
+leaving v edges = filter (leaves v) edges
 
 -- what begins with an edge: it alone where it arrives at the goal, else it before each way onward
 unfoldable pub beginning : (Vertex → List (List Edge)) → Vertex → Edge → List (List Edge)

@@ -33,22 +33,28 @@ noEntry = entryAt [] 0
 unfoldable pub noPeer : PeerEntry
 noPeer = peerEntryAt [] 0
 
+-- entry i of a segment, and its AS
 unfoldable pub entryOf : Segment → ℕ → Entry
 entryOf seg i = getD (seg .entries) i noEntry
 
 unfoldable pub asOf : Segment → ℕ → IsdAsn
 asOf seg i = entryOf seg i .own .local
 
--- the last entry's AS
+-- the leaf is the last entry
 unfoldable pub leafAs : Segment → IsdAsn
 leafAs seg = asOf seg (length (seg .entries) - 1)
 
+-- peer p of entry i
 unfoldable pub peerOf : Segment → ℕ → ℕ → PeerEntry
 peerOf seg i p = getD (entryOf seg i .peers) p noPeer
 
 -- ---- insertions, in the order in which they are made
 
--- an edge of the segment. In construction direction: it arrives at an AS equal to the leaf's
+-- construction direction: an edge arrives at an AS equal to the leaf's
+unfoldable pub inConstruction : Segment → Vertex → Bool
+inConstruction seg dst = sameVertex dst (AS (leafAs seg))
+
+-- an edge of the segment
 unfoldable pub edgeOf : Segment → Vertex → Vertex → ℕ → ℕ → ℕ → Edge
 edgeOf seg src dst weight shortcut peer =
     record {
@@ -58,7 +64,7 @@ edgeOf seg src dst weight shortcut peer =
       shortcut = shortcut;
       peer = peer;
       position = seg .position;
-      construction = sameVertex dst (AS (leafAs seg));
+      construction = inConstruction seg dst;
       core = seg .core;
     }
 
@@ -106,7 +112,7 @@ insertions seg =
 unfoldable pub sameEnds : Edge → Edge → Bool
 sameEnds e f = sameVertex (e .src) (f .src) && sameVertex (e .dst) (f .dst)
 
--- of insertions with equal ends the last stands
+-- edges with equal ends overwrite: of such insertions the last stands
 unfoldable pub lasting : List Edge → List Edge
 lasting [] = []
 lasting (e ∷ later) = let rest = lasting later in if any (sameEnds e) later then rest else e ∷ rest
@@ -119,10 +125,21 @@ unfoldable pub sameSegment : Segment → Segment → Bool
 sameSegment s t =
     sameBool (s .core) (t .core) && eqb (s .timestamp) (t .timestamp) && eqb (s .id) (t .id) && sameList (s .body) (t .body)
 
+-- t is equal to s and stands at a lower position
+unfoldable pub isEarlier : Segment → Segment → Bool
+isEarlier s t = ltb (t .position) (s .position) && sameSegment s t
+
 -- equal segments count once, under the first position
+unfoldable pub isFirst : List Segment → Segment → Bool
+isFirst segs s = not (any (isEarlier s) segs)
+
 unfoldable pub firsts : List Segment → List Segment
-firsts segs = filter (λ s. not (any (λ t. ltb (t .position) (s .position) && sameSegment s t) segs)) segs
+firsts segs = filter (isFirst segs) segs
+
+-- the stored edges of one segment
+unfoldable pub storedOf : Segment → List Edge
+storedOf seg = lasting (insertions seg)
 
 -- all stored edges of a book
 unfoldable pub storedEdges : List ℕ → List Edge
-storedEdges b = flatMap (λ s. lasting (insertions s)) (firsts (segments b))
+storedEdges b = flatMap storedOf (firsts (segments b))

@@ -9,7 +9,7 @@ use Rattle.spec.specs.declared.Edge.{Edge}
 use Rattle.spec.specs.declared.SolutionEdge.{SolutionEdge}
 use Rattle.spec.specs.Basics.{if_then_else_, sum}
 use Rattle.spec.specs.Octets.{octets2, octets8}
-use Rattle.spec.specs.Book.{Segment, segmentAt}
+use Rattle.spec.specs.Book.{Entry, Segment, segmentAt}
 use Rattle.spec.specs.Chains.{chains}
 
 -- ---- comparisons, one after the other
@@ -36,13 +36,19 @@ module _ {A : Type 0} where
 
 -- ---- the order
 
+unfoldable pub weightOf : Edge → ℕ
+weightOf e = e .weight
+
+-- the sum of the weights
 unfoldable pub cost : List Edge → ℕ
-cost c = sum (map (λ e. e .weight) c)
+cost c = sum (map weightOf c)
 
 -- what the digest is taken of: each entry's AS, ingress, egress, in order
+unfoldable pub entryInput : Entry → List ℕ
+entryInput x = octets8 (x .own .local .0) ++ octets2 (x .own .hop .ingress) ++ octets2 (x .own .hop .egress)
+
 unfoldable pub fingerprintInput : Segment → List ℕ
-fingerprintInput seg =
-    flatMap (λ x. octets8 (x .own .local .0) ++ octets2 (x .own .hop .ingress) ++ octets2 (x .own .hop .egress)) (seg .entries)
+fingerprintInput seg = flatMap entryInput (seg .entries)
 
 -- what the order, and a solution's record, know of an edge
 unfoldable pub solutionEdge : Edge → SolutionEdge

@@ -3,14 +3,14 @@
 use mathlib.Core.Path.{_≡_, refl, sym, ap, _∙_}
 use Prim.Native.Nat.{_+_, _*_, _-_, _^_, _≤_, _<_}
 use native.Mathlib.Omega.{arith}
-use Rattle.spec.specs.Book.{bodyAt, bodiesVerdict}
+use Rattle.spec.specs.Book.{bodyOffset, bodiesVerdict}
 use Rattle.segment.proofs.Turns.{body-more, body-says, bodies-refused, bodies-next, bodies-done}
 use borrow.Author.Needs.{needs}
 use Rattle.segment.proofs.answer.bodies_verdict.Statement.{statement}
 use Rattle.segment.proofs.answer.bodies_verdict.Tie as tie
 
 abbrev Inv-loop : tie.InvT-loop
-Inv-loop book count k₀ at₀ k at = (k ≤ count) × (at < 2 ^ 21 + 65536 * k) × (at ≡ bodyAt book k) × (bodiesVerdict book 0 count ≡ bodiesVerdict book k (count - k))
+Inv-loop book count k₀ at₀ k at = (k ≤ count) × (at < 2 ^ 21 + 65536 * k) × (at ≡ bodyOffset book k) × (bodiesVerdict book 0 count ≡ bodiesVerdict book k (count - k))
 
 abbrev μ-loop : tie.MeasureT-loop
 μ-loop book count k₀ at₀ k at = count - k

@@ -4,7 +4,7 @@ use mathlib.Core.Path.{_≡_, refl, sym, ap, _∙_}
 use Prim.Native.Nat.{_+_, _*_, _-_, _^_, _≤_, _<_}
 use native.Mathlib.Omega.{arith}
 use lib.ListN.{length}
-use Rattle.spec.specs.Book.{segmentCount, bodyAt}
+use Rattle.spec.specs.Book.{segmentCount, bodyOffset}
 use Rattle.spec.specs.Book.{entryOffset}
 use Rattle.segment.specs.Offsets.{rowsBelow, offsetTable}
 use Rattle.spec.proofs.BookLaws.{AcceptedBook, accepted, entry-count}
@@ -16,7 +16,7 @@ use Rattle.segment.proofs.entries.entry_offsets.Statement.{statement}
 use Rattle.segment.proofs.entries.entry_offsets.Tie as tie
 
 abbrev Inv-loop : tie.InvT-loop
-Inv-loop book count table₀ at₀ k₀ table at k = (k ≤ count) × (at < 2 ^ 21 + 65536 * k) × (at ≡ bodyAt book k) × (table ≡ rowsBelow book k)
+Inv-loop book count table₀ at₀ k₀ table at k = (k ≤ count) × (at < 2 ^ 21 + 65536 * k) × (at ≡ bodyOffset book k) × (table ≡ rowsBelow book k)
 
 abbrev μ-loop : tie.MeasureT-loop
 μ-loop book count table₀ at₀ k₀ table at k = count - k

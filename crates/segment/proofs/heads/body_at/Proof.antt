@@ -1,13 +1,13 @@
 -- `body_at` meets its contract.
 -- Assumes nothing.
-use Rattle.spec.specs.Book.{bodyAt}
+use Rattle.spec.specs.Book.{bodyOffset}
 use native.Mathlib.Omega.{arith}
 use borrow.Author.Needs.{needs}
 use Rattle.segment.proofs.heads.body_at.Statement.{statement}
 use Rattle.segment.proofs.heads.body_at.Tie as tie
 
 returns : tie.Need-returns
-unfolding bodyAt
+unfolding bodyOffset
 returns c = (cc, omega arith)
 
 pub body-at-spec : {M : Type 1} → statement M

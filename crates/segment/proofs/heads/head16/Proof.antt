@@ -1,7 +1,7 @@
 -- `head16` meets its contract.
 -- Assumes nothing.
 use native.Mathlib.Omega.{arith}
-use Rattle.spec.specs.Book.{headAt}
+use Rattle.spec.specs.Book.{headOffset}
 use Rattle.segment.proofs.Far.{far16}
 use borrow.Author.Needs.{needs}
 use Rattle.segment.proofs.heads.head16.Statement.{statement}
@@ -11,7 +11,7 @@ returns : tie.Need-returns
 returns c = cc
 
 returns-2 : tie.Need-returns-2
-unfolding headAt
+unfolding headOffset
 returns-2 c = far16 _ _ (omega arith)
 
 pub head16-spec : {M : Type 1} → statement M

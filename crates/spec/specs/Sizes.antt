@@ -1,0 +1,18 @@
+-- The limits and sizes as one value, which the code's constants are held to.
+-- Assumes nothing.
+use Rattle.spec.specs.declared.Limits.{Limits}
+use Rattle.spec.specs.Limits.{maxBook, maxSegments, maxEntries, maxPeers, maxSlots, entrySize, peerSize, solutionSize, pathSize}
+
+abbrev pub limits : Limits
+limits =
+    record {
+      book = maxBook;
+      segments = maxSegments;
+      entries = maxEntries;
+      peers = maxPeers;
+      slots = maxSlots;
+      entry = entrySize;
+      peer = peerSize;
+      solution = solutionSize;
+      path = pathSize;
+    }
