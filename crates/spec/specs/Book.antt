@@ -7,6 +7,8 @@ use mathlib.Core.List.{List, [], _∷_, map}
 use lib.ListN.{length, getD, take, drop}
 use lib.Dec.{ltb, eqb}
 use Rattle.spec.specs.declared.IsdAsn.{IsdAsn}
+use Rattle.spec.specs.declared.Sizes.{Sizes}
+use Rattle.spec.specs.declared.Head.{Head}
 use Rattle.spec.specs.declared.AsEntry.{AsEntry}
 use Rattle.spec.specs.declared.PeerEntry.{PeerEntry}
 use Rattle.spec.specs.declared.Refusal.the-variants.{Cut, Surplus, Oversize, Crowded, Long, Peers, Misfit}
@@ -47,6 +49,13 @@ entryCountAt b k = be16 b (headOffset k + 6)
 
 unfoldable pub bodyLengthAt : List ℕ → ℕ → ℕ
 bodyLengthAt b k = be16 b (headOffset k + 8)
+
+-- the sizes, and a head, as a whole
+unfoldable pub sizesAt : List ℕ → Sizes
+sizesAt b = record { cores = cores b; others = nonCores b; bodies = bodyTotal b }
+
+unfoldable pub headAt : List ℕ → ℕ → Head
+headAt b k = record { timestamp = timestampAt b k; id = idAt b k; entries = entryCountAt b k; body = bodyLengthAt b k }
 
 -- the bytes of the bodies before position k
 unfoldable pub lengthsBelow : List ℕ → ℕ → ℕ

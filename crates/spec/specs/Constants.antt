@@ -1,7 +1,7 @@
 -- The limits and sizes as one value, which the code's constants are held to.
 -- Assumes nothing.
 use Rattle.spec.specs.declared.Limits.{Limits}
-use Rattle.spec.specs.Limits.{maxBook, maxSegments, maxEntries, maxPeers, maxSlots, entrySize, peerSize, solutionSize, pathSize}
+use Rattle.spec.specs.Limits.{maxBook, maxSegments, maxEntries, maxPeers, maxSlots, sizesSize, headSize, entrySize, peerSize, solutionSize, pathSize}
 
 abbrev pub limits : Limits
 limits =
@@ -11,6 +11,8 @@ limits =
       entries = maxEntries;
       peers = maxPeers;
       slots = maxSlots;
+      sizes = sizesSize;
+      head = headSize;
       entry = entrySize;
       peer = peerSize;
       solution = solutionSize;
