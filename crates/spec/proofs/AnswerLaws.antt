@@ -6,8 +6,8 @@ use mathlib.Core.Path.{_≡_, refl, sym, ap, ap₂, _∙_, subst}
 use mathlib.Core.Logic.{_⊎_, inl, inr}
 use mathlib.Core.Bool.{Bool, true, false, false≢true}
 use mathlib.Core.List.{List, [], _∷_, _++_, map, flatMap, List·Memᴰ as Mem, List·Memᴰ·head as head, List·Memᴰ·tail as tail, List·Memᴰ·not-nil as not-nil, List·Memᴰ·cases-cons as cases-cons, head-eq-of-cons-eq, tail-eq-of-cons-eq}
-use lib.ListN.{length, replicate}
-use lib.Dec.{eqb}
+use lib.ListN.{length}
+use lib.Dec.{eqb, ltb}
 use borrow.Author.Tests.{eqb-true, eq-eqb, le-ltb, lt-ltb}
 use Rattle.spec.specs.declared.IsdAsn.{IsdAsn}
 use Rattle.spec.specs.declared.Vertex.the-variants.{AS}
@@ -16,23 +16,23 @@ use Rattle.spec.specs.declared.Refusal.{Refusal}
 use Rattle.spec.specs.declared.Refusal.the-variants.{Full, Small, Stranger}
 use Rattle.spec.specs.declared.Verdict.the-variants.{Accepted, Refused as RefusedBook}
 use Rattle.spec.specs.declared.PathAnswer.{PathAnswer}
-use Rattle.spec.specs.declared.PathAnswer.the-variants.{Path, Loop, Bare, Refused}
+use Rattle.spec.specs.declared.PathAnswer.the-variants.{Path, Loop, Bare}
 use Rattle.spec.specs.Limits.{pathSize}
 use Rattle.spec.specs.Basics.{if_then_else_, any, sameList, padded}
 use Rattle.spec.specs.Octets.{Bytes, octets2}
 use Rattle.spec.specs.Book.{verdict}
 use Rattle.spec.specs.Chains.{IsChain, chains}
 use Rattle.spec.specs.Order.{solutionEdge, solutions}
-use Rattle.spec.specs.Assembly.{combinedPath, isLoop, isBare}
+use Rattle.spec.specs.Assembly.{CombinedPath, combinedPath, isLoop, isBare, outcome}
 use Rattle.spec.specs.Records.{edgeOctets, solutionOctets, pathOctets, slots}
 use Rattle.spec.specs.Router.{RouterAgrees}
 use Rattle.spec.specs.declared.PathInterface.{PathInterface}
 use Rattle.spec.specs.declared.ListAnswer.the-variants.{Count}
-use Rattle.spec.specs.Answers.{Assembled, listing, listingOf, listingOn, assembly, assemblyOn, pathOfRecord, pathAnswer, refusedPath, refusedList}
+use Rattle.spec.specs.Answers.{Listed, Assembled, listing, listingOf, listingOn, assembly, assemblyOn, pathOfRecord, leftBy, pathAnswer, refusedPath, refusedList}
 use Rattle.spec.specs.Demand3.{Demand3}
 use Rattle.spec.proofs.Membership.{and-true, true-and, not-both}
 use Rattle.spec.proofs.ChainLaws.{chains-sound, chains-complete}
-use Rattle.spec.proofs.OnceLaws.{solutions-sound, solutions-complete}
+use Rattle.spec.proofs.OnceLaws.{solutions-sound, solutions-complete, once-solutions}
 use Rattle.spec.proofs.OrderLaws.{solutions-order}
 use Rattle.spec.proofs.Ties.{AllSame, same-chain}
 use Rattle.spec.proofs.BookLaws.{stored}
@@ -144,65 +144,66 @@ module _ (b : List ℕ) (src dst : IsdAsn) (bytes : ℕ) where
       ap (λ v. assemblyOn v b bytes given (chains b src dst)) ok
       ∙ ap (λ t. if t then refusedPath bytes Small else pathOfRecord b bytes given (chains b src dst)) (lt-ltb bytes pathSize h)
 
--- ---- demand 3
+-- ---- the three answers to a chain's record
 
-abbrev isPath : PathAnswer → Type 0
-isPath Path = Unit
-isPath Loop = ⊥
-isPath Bare = ⊥
-isPath (Refused r) = ⊥
-
-answer-path : (b : List ℕ) (bytes : ℕ) (c : List Edge) → pathAnswer b bytes c .0 ≡ Path → pathAnswer b bytes c .1 ≡ padded bytes (pathOctets (combinedPath b c))
-unfolding pathAnswer
-answer-path b bytes c = go (isLoop (combinedPath b c .interfaces)) (isBare (combinedPath b c .interfaces))
-  where
-    answer : Bool → Bool → Assembled
-    answer l e =
-        if l then (Loop, replicate bytes 0)
-        else if e then (Bare, replicate bytes 0)
-        else (Path, padded bytes (pathOctets (combinedPath b c)))
-
-    go : (l e : Bool) → answer l e .0 ≡ Path → answer l e .1 ≡ padded bytes (pathOctets (combinedPath b c))
-    go true e q = absurd (subst isPath (sym q) tt)
-    go false true q = absurd (subst isPath (sym q) tt)
-    go false false q = refl
-
--- the three answers to a chain's record
 module _ (b : List ℕ) (bytes : ℕ) (c : List Edge) where
-  abbrev pub answer-of : Bool → Bool → Assembled
-  answer-of l e =
-      if l then (Loop, replicate bytes 0)
-      else if e then (Bare, replicate bytes 0)
-      else (Path, padded bytes (pathOctets (combinedPath b c)))
+  abbrev p : CombinedPath
+  p = combinedPath b c
 
-  pub answer-by : (l e : Bool) → isLoop (combinedPath b c .interfaces) ≡ l → isBare (combinedPath b c .interfaces) ≡ e → pathAnswer b bytes c ≡ answer-of l e
+  abbrev by : Bool → Bool → PathAnswer
+  by l e = if l then Loop else if e then Bare else Path
+
+  pub outcome-by : (l e : Bool) → isLoop (p .interfaces) ≡ l → isBare (p .interfaces) ≡ e → outcome p ≡ by l e
+  unfolding outcome
+  outcome-by l e q r = ap₂ by q r
+
+  pub first-of : outcome p ≡ pathAnswer b bytes c .0
   unfolding pathAnswer
-  answer-by l e p q = ap₂ answer-of p q
+  first-of = refl
+
+  pub answer-by : (o : PathAnswer) → outcome p ≡ o → pathAnswer b bytes c ≡ (o, leftBy o bytes p)
+  unfolding pathAnswer
+  answer-by o q = ap (λ x. (x, leftBy x bytes p)) q
 
 pub bare-no-loop : (is : List PathInterface) → isBare is ≡ true → isLoop is ≡ false
 unfolding isBare isLoop any
 bare-no-loop [] q = refl
 bare-no-loop (i ∷ is) q = absurd (false≢true q)
 
+-- ---- listing on an accepted book
+
+module _ (digest : List ℕ → List ℕ) (b : List ℕ) (src dst : IsdAsn) (ok : verdict b ≡ Accepted) (bytes : ℕ) where
+  abbrev found-list : List (List Edge)
+  found-list = solutions digest b src dst
+
+  abbrev listed-by : Bool → Listed
+  listed-by t = if t then refusedList bytes Full else (Count (length found-list), padded bytes (flatMap solutionOctets found-list))
+
+  pub listing-on : (t : Bool) → ltb (slots bytes) (length found-list) ≡ t → listing digest b src dst bytes ≡ listed-by t
+  unfolding listing listingOf
+  listing-on t q = ap (λ v. listingOn v bytes found-list) ok ∙ ap listed-by q
+
+-- ---- demand 3
+
 pub demand-3 : (digest : List ℕ → List ℕ) (b : List ℕ) → Bytes b → verdict b ≡ Accepted → (src dst : IsdAsn) → Demand3 digest b src dst
-unfolding listing listingOf refusedList
+unfolding refusedList refusedPath
 demand-3 digest b bs ok src dst =
     record {
       sound = solutions-sound digest b src dst;
       complete = solutions-complete digest b src dst;
+      once = once-solutions digest b src dst;
       ordered = solutions-order digest b src dst;
-      listed = λ bytes h. ap (λ v. listingOn v bytes (solutions digest b src dst)) ok
-          ∙ ap (λ t. if t then refusedList bytes Full else (Count (length (solutions digest b src dst)), padded bytes (flatMap solutionOctets (solutions digest b src dst))))
-          (le-ltb (slots bytes) (length (solutions digest b src dst)) h);
-      full = λ bytes h. ap (λ v. listingOn v bytes (solutions digest b src dst)) ok
-          ∙ ap (λ t. if t then refusedList bytes Full else (Count (length (solutions digest b src dst)), padded bytes (flatMap solutionOctets (solutions digest b src dst))))
-          (lt-ltb (slots bytes) (length (solutions digest b src dst)) h);
-      path = λ c h bytes room p q. assembly-chain b src dst bytes ok room c h ∙ answer-by b bytes c false false p q;
-      loop = λ c h bytes room p. assembly-chain b src dst bytes ok room c h ∙ answer-by b bytes c true (isBare (combinedPath b c .interfaces)) p refl;
-      bare = λ c h bytes room q. assembly-chain b src dst bytes ok room c h ∙ answer-by b bytes c false true (bare-no-loop (combinedPath b c .interfaces) q) q;
+      listed = λ bytes h. listing-on digest b src dst ok bytes false (le-ltb (slots bytes) (length (solutions digest b src dst)) h);
+      full = λ bytes h. listing-on digest b src dst ok bytes true (lt-ltb (slots bytes) (length (solutions digest b src dst)) h);
+      path = λ c h bytes room p q. assembly-chain b src dst bytes ok room c h ∙ answer-by b bytes c Path (outcome-by b bytes c false false p q);
+      loop = λ c h bytes room p.
+          assembly-chain b src dst bytes ok room c h ∙ answer-by b bytes c Loop (outcome-by b bytes c true (isBare (combinedPath b c .interfaces)) p refl);
+      bare = λ c h bytes room q.
+          assembly-chain b src dst bytes ok room c h
+          ∙ answer-by b bytes c Bare (outcome-by b bytes c false true (bare-no-loop (combinedPath b c .interfaces) q) q);
+      stranger = λ given none bytes room. assembly-stranger b src dst bytes ok room given none;
       routed = λ c h bytes room q.
           let e : assembly b src dst (solutionOctets c) bytes ≡ pathAnswer b bytes c = assembly-chain b src dst bytes ok room c h in
-          subst (RouterAgrees b c)
-          (sym (ap (λ (x : Assembled). x .1) e ∙ answer-path b bytes c (sym (ap (λ (x : Assembled). x .0) e) ∙ q)))
-          (router-agrees b bs c (λ f m. stored b (h .stored f m)) bytes);
+          let o : outcome (combinedPath b c) ≡ Path = first-of b bytes c ∙ sym (ap (λ (x : Assembled). x .0) e) ∙ q in
+          subst (RouterAgrees b c) (sym (ap (λ (x : Assembled). x .1) (e ∙ answer-by b bytes c Path o))) (router-agrees b bs c (λ f m. stored b (h .stored f m)) bytes);
     }

@@ -22,11 +22,9 @@ use Rattle.spec.specs.Basics.{if_then_else_, any, range}
 use Rattle.spec.specs.Octets.{Bytes, be16, be32}
 use Rattle.spec.specs.Book.{Entry, segmentCount, bodyTotal, wholeLength, lengthsBelow, isLong, tooLong, bodiesVerdict, verdict, macAt, asEntryAt, peerEntryAt, peerOffset, peerOfEntryAt, peerCount, entryAt, entriesAt, entryEnd, segmentAt, segments, entryCountAt, bodyOffset, idAt, timestampAt}
 use Rattle.spec.specs.Edges.{noEntry, noPeer, entryOf, peerOf, lasting, insertions, firsts, storedOf, storedEdges}
-use Rattle.spec.specs.Assembly.{foldStep, foldHops, idBelow, hopOf, hopsOf, infoOf, segmentOf, isPeerHop}
-use Rattle.spec.specs.Router.{hopEntries}
+use Rattle.spec.specs.Assembly.{foldStep, foldMacs, macOf, idBelow, inDirection, usedEntries, hopOf, hopsOf, infoOf, segmentOf, isPeerHop}
 use Rattle.spec.proofs.Membership.{not-both, filter-mem, map-mem, flatMap-mem}
-use Rattle.spec.proofs.OnceLaws.{any-mem, Inserted, inserted, lasting-mem, range-mem, segment-position}
-use Rattle.spec.proofs.RouterLaws.{hops-entries}
+use Rattle.spec.proofs.OnceLaws.{any-mem, Inserted, inserted, lasting-mem, reverse-mem, range-mem, segment-position}
 use Rattle.spec.proofs.ByteLaws.{GoodInfo, GoodHop}
 
 -- ---- an accepted book
@@ -181,10 +179,15 @@ take-mem zero xs m = absurd (not-nil m)
 take-mem (suc n) [] m = m
 take-mem (suc n) (y ∷ ys) m = ⊎-elim (λ q. head q) (λ k. tail (take-mem n ys k)) (cases-cons m)
 
-fold-lt : (id : ℕ) (hops : List HopField) → id < 2 ^ 16 → ((h : HopField) → Mem h hops → be16 (h .mac) 0 < 2 ^ 16) → foldHops id hops < 2 ^ 16
-unfolding foldHops foldStep
+in-direction-mem : {A : Type 0} (t : Bool) (xs : List A) {x : A} → Mem x (inDirection t xs) → Mem x xs
+unfolding inDirection
+in-direction-mem true xs m = reverse-mem xs m
+in-direction-mem false xs m = m
+
+fold-lt : (id : ℕ) (macs : List (List ℕ)) → id < 2 ^ 16 → ((x : List ℕ) → Mem x macs → be16 x 0 < 2 ^ 16) → foldMacs id macs < 2 ^ 16
+unfolding foldMacs foldStep
 fold-lt id [] h f = h
-fold-lt id (x ∷ xs) h f = fold-lt (bitXor id (be16 (x .mac) 0)) xs (xor-lt 16 id (be16 (x .mac) 0) h (f x (head refl))) (λ y m. f y (tail m))
+fold-lt id (x ∷ xs) h f = fold-lt (bitXor id (be16 x 0)) xs (xor-lt 16 id (be16 x 0) h (f x (head refl))) (λ y m. f y (tail m))
 
 module _ (b : List ℕ) (bytes : Bytes b) where
   entries-good : (at n : ℕ) {x : Entry} → Mem x (entriesAt b at n) → GoodEntry x
@@ -205,18 +208,19 @@ module _ (b : List ℕ) (bytes : Bytes b) where
       go false = entry-of-good k i .own
 
   pub hops-good : (k : ℕ) (e : Edge) {h : HopField} → Mem h (hopsOf (segmentAt b k) e) → GoodHop h
+  unfolding hopsOf
   hops-good k e {h} m =
-      let w = map-mem (hopOf (segmentAt b k) e) (hopEntries (segmentAt b k) e) (subst (Mem h) (hops-entries (segmentAt b k) e) m) in
+      let w = map-mem (hopOf (segmentAt b k) e) (usedEntries (segmentAt b k) e) (in-direction-mem (e .construction) _ m) in
       subst GoodHop (sym (w .2)) (hop-good k e (w .0))
 
   id-lt : (k n : ℕ) → idBelow (segmentAt b k) n < 2 ^ 16
-  unfolding idBelow segmentAt idAt
+  unfolding idBelow segmentAt idAt macOf
   id-lt k n =
       fold-lt _ _ (be16-lt b bytes _)
       (λ h m.
-      let w = map-mem (λ (x : Entry). x .own .hop) (take n (entriesAt b (bodyOffset b k) (entryCountAt b k))) m in
+      let w = map-mem macOf (take n (entriesAt b (bodyOffset b k) (entryCountAt b k))) m in
       let g : GoodEntry (w .0) = entries-good (bodyOffset b k) (entryCountAt b k) (take-mem n (entriesAt b (bodyOffset b k) (entryCountAt b k)) (w .1)) in
-      subst (λ (x : HopField). be16 (x .mac) 0 < 2 ^ 16) (sym (w .2)) (g .own .word))
+      subst (λ (x : List ℕ). be16 x 0 < 2 ^ 16) (sym (w .2)) (g .own .word))
 
   pub info-good : (k : ℕ) (e : Edge) → GoodInfo (infoOf (segmentAt b k) e)
   unfolding infoOf segmentAt timestampAt

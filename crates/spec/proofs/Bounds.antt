@@ -18,15 +18,15 @@ use Rattle.spec.specs.Order.{weightOf, cost}
 use Rattle.spec.specs.Octets.{Bytes, octets2, octets4, octets8}
 use Rattle.spec.specs.Book.{Segment, entryCountAt, entryAt, entryOffset, bodyOffset, peerCount, peerOfEntryAt, segmentAt}
 use Rattle.spec.specs.Edges.{entryOf}
-use Rattle.spec.specs.Assembly.{hopCount, usedEntries, interfaceIf, interfacesAt, interfacesOf, inDirection, hopsOf, infoOf, segmentOf, CombinedPath, combinedPath}
-use Rattle.spec.specs.Records.{infoOctets, hopOctets, asOctets, pathOctets}
+use Rattle.spec.specs.Assembly.{hopCount, usedEntries, interfaceIf, interfacesAt, interfacesOf, segmentOf, infoOn, hopsOn, interfacesOn, CombinedPath, combinedPath}
+use Rattle.spec.specs.Records.{infoOctets, hopOctets, asOctets, interfaceAsOctets, interfaceIdOctets, pathHead, pathHeadOctets, pathOctets}
 use Rattle.spec.specs.Chains.{IsChain}
 use Rattle.spec.proofs.ChainLaws.{allowed-length}
 use Rattle.spec.proofs.Lists.{length-range}
 use Rattle.spec.proofs.BookLaws.{AcceptedBook, Stored, stored, entry-count, segment-length}
 use Rattle.spec.proofs.BodyLaws.{entry-at, entry-place}
 use Rattle.spec.proofs.ByteLaws.{GoodHop, info-length, hop-length}
-use Rattle.spec.proofs.PathLaws.{hops-length, front, front-length, good-hops}
+use Rattle.spec.proofs.PathLaws.{direction-length, used-length, hops-length, head-length, good-hops}
 
 -- ---- an edge
 
@@ -97,30 +97,20 @@ two-interfaces seg e i = both _ _ _ _ _
     both s t a x y = omega (arith, length-append (interfaceIf s a x) (interfaceIf t a y), at-most-one s a x, at-most-one t a y)
 
 interfaces-most : (seg : Segment) (e : Edge) → length (interfacesOf seg e) ≤ hopCount seg e * 2
-unfolding interfacesOf inDirection usedEntries
-interfaces-most seg e = go (e .construction)
-  where
-    used : List ℕ
-    used = reverse (range (e .shortcut) (hopCount seg e))
-
-    all : List PathInterface
-    all = flatMap (interfacesAt seg e) used
-
-    n : length used ≡ hopCount seg e
-    n = length-reverse (range (e .shortcut) (hopCount seg e)) ∙ length-range (e .shortcut) (hopCount seg e)
-
-    most : length all ≤ hopCount seg e * 2
-    most = subst (λ k. length all ≤ k * 2) n (flat-most (interfacesAt seg e) 2 used (λ i m. two-interfaces seg e i))
-
-    go : (t : Bool) → length (if t then reverse all else all) ≤ hopCount seg e * 2
-    go true = subst (λ k. k ≤ hopCount seg e * 2) (sym (length-reverse all)) most
-    go false = most
+unfolding interfacesOf
+interfaces-most seg e =
+    omega (
+      arith,
+      direction-length (e .construction) (flatMap (interfacesAt seg e) (usedEntries seg e)),
+      used-length seg e,
+      flat-most (interfacesAt seg e) 2 (usedEntries seg e) (λ i m. two-interfaces seg e i),
+    )
 
 octets-split : (p : CombinedPath)
     → pathOctets p
-    ≡ (((front p 0 ++ flatMap infoOctets (p .infos)) ++ flatMap hopOctets (p .hops)) ++ flatMap (λ i. asOctets (i .local)) (p .interfaces))
-    ++ flatMap (λ i. octets2 (i .id)) (p .interfaces)
-unfolding pathOctets front
+    ≡ (((pathHeadOctets (pathHead p) ++ flatMap infoOctets (p .infos)) ++ flatMap hopOctets (p .hops)) ++ flatMap interfaceAsOctets (p .interfaces))
+    ++ flatMap interfaceIdOctets (p .interfaces)
+unfolding pathOctets
 octets-split p = refl
 
 -- the record's length, from how many infos, hops and interfaces there are
@@ -129,28 +119,29 @@ path-length : (p : CombinedPath) → ((h : HopField) → Mem h (p .hops) → Goo
 path-length p good =
     let infos : List ℕ = flatMap infoOctets (p .infos) in
     let hops : List ℕ = flatMap hopOctets (p .hops) in
-    let ases : List ℕ = flatMap (λ i. asOctets (i .local)) (p .interfaces) in
-    let ids : List ℕ = flatMap (λ i. octets2 (i .id)) (p .interfaces) in
-    let f : length (front p 0) ≡ pathHeadSize = front-length p 0 in
-    let l₁ = length-append (front p 0) infos in
-    let l₂ = length-append (front p 0 ++ infos) hops in
-    let l₃ = length-append ((front p 0 ++ infos) ++ hops) ases in
-    let l₄ = length-append (((front p 0 ++ infos) ++ hops) ++ ases) ids in
+    let ases : List ℕ = flatMap interfaceAsOctets (p .interfaces) in
+    let ids : List ℕ = flatMap interfaceIdOctets (p .interfaces) in
+    let front : List ℕ = pathHeadOctets (pathHead p) in
+    let f : length front ≡ pathHeadSize = head-length (pathHead p) in
+    let l₁ = length-append front infos in
+    let l₂ = length-append (front ++ infos) hops in
+    let l₃ = length-append ((front ++ infos) ++ hops) ases in
+    let l₄ = length-append (((front ++ infos) ++ hops) ++ ases) ids in
     let e₁ = flat-exact infoOctets infoSize (p .infos) (λ i m. info-length i) in
     let e₂ = flat-exact hopOctets hopSize (p .hops) (λ h m. hop-length h (good h m)) in
-    let e₃ = flat-exact (λ (i : PathInterface). asOctets (i .local)) 8 (p .interfaces) (λ i m. unfold asOctets octets8 octets4 octets2 in refl) in
-    let e₄ = flat-exact (λ (i : PathInterface). octets2 (i .id)) 2 (p .interfaces) (λ i m. unfold octets2 in refl) in
+    let e₃ = flat-exact interfaceAsOctets 8 (p .interfaces) (λ i m. unfold interfaceAsOctets asOctets octets8 octets4 octets2 in refl) in
+    let e₄ = flat-exact interfaceIdOctets 2 (p .interfaces) (λ i m. unfold interfaceIdOctets octets2 in refl) in
     ap length (octets-split p) ∙ l₄ ∙ omega arith
 
 pub path-fits : (b : List ℕ) → Bytes b → AcceptedBook b → (c : List Edge) → length c ≤ maxEdges → ((e : Edge) → Mem e c → Stored b e)
     → length (pathOctets (combinedPath b c)) ≤ pathSize
-unfolding combinedPath
+unfolding combinedPath hopsOn interfacesOn
 path-fits b bytes a c most st =
     let p : CombinedPath = combinedPath b c in
     let bound : (e : Edge) → Mem e c → EdgeBounds b e = λ e m. edge-bounds b a e (st e m) in
-    let n : length (map (λ e. infoOf (segmentOf b e) e) c) ≡ length c = length-map c (λ e. infoOf (segmentOf b e) e) in
-    let h = flat-most (λ e. hopsOf (segmentOf b e) e) maxEntries c (λ e m. omega (arith, hops-length (segmentOf b e) e, bound e m .hops)) in
-    let i = flat-most (λ e. interfacesOf (segmentOf b e) e) (maxEntries * 2) c (λ e m. omega (arith, interfaces-most (segmentOf b e) e, bound e m .hops)) in
+    let n : length (map (infoOn b) c) ≡ length c = length-map c (infoOn b) in
+    let h = flat-most (hopsOn b) maxEntries c (λ e m. omega (arith, hops-length (segmentOf b e) e, bound e m .hops)) in
+    let i = flat-most (interfacesOn b) (maxEntries * 2) c (λ e m. omega (arith, interfaces-most (segmentOf b e) e, bound e m .hops)) in
     omega (arith, path-length p (good-hops b bytes c st 0))
 
 -- ---- a chain

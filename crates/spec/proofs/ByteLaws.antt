@@ -18,7 +18,8 @@ use Rattle.spec.specs.Book.{macAt}
 use Rattle.spec.specs.declared.Edge.{Edge}
 use Rattle.spec.specs.declared.SolutionEdge.{SolutionEdge}
 use Rattle.spec.specs.Order.{cost, solutionEdge, compareSolutions, compareChains}
-use Rattle.spec.specs.Records.{bit, infoOctets, hopOctets, edgeOctets, solutionOctets, edgeAt, edgesIn, compareRecords}
+use Rattle.spec.specs.Records.{bit, infoOctets, hopOctets, edgeOctets, solutionOctets, edgeAt, edgeOffset, recordEdge, solutionIn}
+use Rattle.spec.specs.ByRecord.{edgesIn, compareRecords}
 use Rattle.spec.specs.Router.{infoAt, hopAt}
 
 -- ---- numbers
@@ -163,7 +164,7 @@ unfolding edgeOctets
 edge-length e g = refl
 
 pub edges-back : (c : List Edge) → edgesIn (solutionOctets c) ≡ map solutionEdge c
-unfolding edgesIn solutionOctets padded octets2
+unfolding edgesIn recordEdge edgeOffset solutionIn solutionOctets padded octets2
 edges-back c =
     ap (λ n. map (λ k. edgeAt (solutionOctets c) (4 + 4 * k)) (range 0 n)) (sym (length-map c solutionEdge))
     ∙ read-all edgeAt edgeOctets (λ e. Unit {0}) 4 edgeAt-shift edge-back edge-length (solutionOctets c) 4 (map solutionEdge c) (λ e m. tt) 0
@@ -176,7 +177,7 @@ cost-back c h = octets2-back (cost c) [] h
 -- the order of two records is that of the chains
 pub records-order : (digest : List ℕ → List ℕ) (b : List ℕ) (c d : List Edge) → cost c < 2 ^ 16 → cost d < 2 ^ 16
     → compareRecords digest b (solutionOctets c) (solutionOctets d) ≡ compareChains digest b c d
-unfolding compareRecords compareChains
+unfolding compareRecords compareChains solutionIn
 records-order digest b c d h k =
     ap₂ (λ m es. compareSolutions digest b m es (be16 (solutionOctets d) 0) (edgesIn (solutionOctets d))) (cost-back c h) (edges-back c)
     ∙ ap₂ (compareSolutions digest b (cost c) (map solutionEdge c)) (cost-back d k) (edges-back d)

@@ -9,10 +9,6 @@ use mathlib.Core.List.{List, [], _∷_, _++_, flatMap, List·Memᴰ as Mem, List
 use lib.ListN.{length, replicate}
 use lib.Dec.{T}
 use Rattle.spec.specs.declared.IsdAsn.{IsdAsn}
-use Rattle.spec.specs.declared.Verdict.{Verdict}
-use Rattle.spec.specs.declared.Verdict.the-variants.{Accepted, Refused as RefusedBook}
-use Rattle.spec.specs.declared.ListAnswer.{ListAnswer}
-use Rattle.spec.specs.declared.ListAnswer.the-variants.{Count, Refused as RefusedList}
 use Rattle.spec.specs.Basics
 use Rattle.spec.specs.Octets
 use Rattle.spec.specs.Book
@@ -73,21 +69,11 @@ pub data Question : Type 0 where
 abbrev pub isdAsn : ℕ → IsdAsn
 isdAsn n = record { 0 = n }
 
--- 0 for an accepted book, or the refusal's number
-abbrev pub verdictNumber : Verdict → ℕ
-verdictNumber Accepted = 0
-verdictNumber (RefusedBook r) = Answers.refusalNumber r
-
--- 0 and the count, or the refusal's number and 0
-abbrev pub listNumbers : ListAnswer → List ℕ
-listNumbers (Count n) = 0 ∷ n ∷ []
-listNumbers (RefusedList r) = Answers.refusalNumber r ∷ 0 ∷ []
-
 pub answer : (List ℕ → List ℕ) → Question → List ℕ
-answer digest (accept b) = verdictNumber (Book.verdict b) ∷ []
+answer digest (accept b) = Answers.verdictNumber (Book.verdict b) ∷ []
 answer digest (list b src dst bytes) =
     let l : Answers.Listed = Answers.listing digest b (isdAsn src) (isdAsn dst) bytes in
-    listNumbers (l .0) ++ l .1
+    Answers.listNumber (l .0) ∷ l .1
 answer digest (print b src dst) = Printed.printed digest (Octets.octets8 src ++ Octets.octets8 dst ++ b)
 answer digest (live units) = Assembly.life units ∷ []
 
@@ -146,7 +132,7 @@ case q a = record { question = q; expected = a }
 pub table : List Case
 table =
     -- 8 zero bytes: accepted, empty list; 7 bytes: 1
-    case (list (replicate 8 0) a111 a110 16) (0 ∷ 0 ∷ replicate 16 0)
+    case (list (replicate 8 0) a111 a110 16) (0 ∷ replicate 16 0)
     ∷ case (accept (replicate 7 0)) (1 ∷ [])
     -- 8 bytes with C 65: 4; C + N = 64 passes
     ∷ case (accept (0 ∷ 65 ∷ replicate 6 0)) (4 ∷ [])
@@ -172,10 +158,10 @@ table =
     ∷ case (print (book [] (segment 1000000 0x1234 (entry a110 70000 0 0 5 63 mac0 [] ∷ entry a111 9000 9000 7 0 63 mac1 [] ∷ []) ∷ [])) a111 a110)
     (Printed.ascii "solutions 1 paths 1\n1 cost 1 segments 1 mtu 4464 expiry 1021600 hops 2\ninfo 0 1336 1000000\nif 0001ff0000000111 7\nif 0001ff0000000110 5\n")
     -- cores A to B and B to C: none from A to C
-    ∷ case (list coresBook a110 a112 16) (0 ∷ 0 ∷ replicate 16 0)
+    ∷ case (list coresBook a110 a112 16) (0 ∷ replicate 16 0)
     -- one solution, no slot: 8; one slot: listed
-    ∷ case (list workedBook a111 a110 15) (8 ∷ 0 ∷ replicate 15 0)
-    ∷ case (list workedBook a111 a110 16) (0 ∷ 1 ∷ 0 ∷ 1 ∷ 1 ∷ replicate 13 0)
+    ∷ case (list workedBook a111 a110 15) (65544 ∷ replicate 15 0)
+    ∷ case (list workedBook a111 a110 16) (1 ∷ 0 ∷ 1 ∷ 1 ∷ replicate 13 0)
     ∷ []
 
 -- ---- the theorem
@@ -200,8 +186,8 @@ unfolding table every right answer flatMap
     Chains.allowedKinds Chains.leaves Chains.leaving Chains.beginning Chains.walks Chains.chains
     Order.compareBy Order.solutionEdge Order.weightOf Order.cost Order.insertAll Order.insert Order.solutions
     Assembly.least Assembly.isPeerEdge Assembly.atShortcut Assembly.isPeerHop Assembly.hopCount Assembly.usedEntries Assembly.hopOf Assembly.mtusAt
-    Assembly.interfaceIf Assembly.interfacesAt Assembly.inDirection Assembly.foldStep Assembly.foldHops Assembly.idBelow Assembly.stopAt Assembly.life Assembly.hopsOf
-    Assembly.interfacesOf Assembly.mtusOf Assembly.infoOf Assembly.expiryOf Assembly.segmentOf Assembly.combinedPath Assembly.timesOf Assembly.isLoop Assembly.isBare
+    Assembly.interfaceIf Assembly.interfacesAt Assembly.inDirection Assembly.foldStep Assembly.foldMacs Assembly.macOf Assembly.idBelow Assembly.stopAt Assembly.life Assembly.hopsOf
+    Assembly.interfacesOf Assembly.mtusOf Assembly.infoOf Assembly.expiryOf Assembly.segmentOf Assembly.unitsOf Assembly.infoOn Assembly.hopsOn Assembly.interfacesOn Assembly.mtusOn Assembly.expiryOn Assembly.combinedPath Assembly.isOf Assembly.timesOf Assembly.isCrowded Assembly.isLoop Assembly.isBare Assembly.outcome
     Records.bit Records.edgeOctets Records.solutionOctets Records.slots
     Answers.refusedList Answers.listingOf Answers.listing
     Printed.ascii Printed.decimalIn Printed.decimal Printed.hex Printed.item Printed.newline Printed.infoLine Printed.interfaceLine Printed.pathLines

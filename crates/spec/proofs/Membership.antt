@@ -5,7 +5,7 @@ use mathlib.Core.Logic.{_⊎_, inl, inr, ⊎-elim}
 use mathlib.Core.Bool.{Bool, true, false, _&&_, true≢false, false≢true}
 use mathlib.Core.List.{List, [], _∷_, _++_, map, flatMap, List·Memᴰ as Mem, List·Memᴰ·head as head, List·Memᴰ·tail as tail, List·Memᴰ·not-nil as not-nil, List·Memᴰ·cases-cons as cases-cons, List·Memᴰ·append-cases as append-cases, Memᴰ·append-left, Memᴰ·append-right, Memᴰ·cast}
 use lib.Dec.{T}
-use Rattle.spec.specs.Basics.{if_then_else_, filter}
+use Rattle.spec.specs.Basics.{if_then_else_, filter, Once}
 
 -- ---- tests
 
@@ -84,11 +84,6 @@ module _ {A B : Type 0} (f : A → List B) where
 -- ---- each element once
 
 module _ {A : Type 0} where
-  -- no element stands twice
-  abbrev pub Once : List A → Type 0
-  Once [] = Unit
-  Once (x ∷ xs) = (Mem x xs → ⊥) × Once xs
-
   pub once-append : (xs ys : List A) → Once xs → Once ys → ((x : A) → Mem x xs → Mem x ys → ⊥) → Once (xs ++ ys)
   once-append [] ys ox oy apart = oy
   once-append (x ∷ xs) ys ox oy apart = (

@@ -14,33 +14,32 @@ use borrow.Author.Tests.{ne-eqb, eq-eqb, eqb-true, eqb-false, ltb-true, ltb-fals
 use Rattle.spec.specs.declared.HopField.{HopField}
 use Rattle.spec.specs.declared.Edge.{Edge}
 use Rattle.spec.specs.Basics.{if_then_else_, range}
-use Rattle.spec.specs.Book.{Segment, Entry}
+use Rattle.spec.specs.Book.{Segment}
 use Rattle.spec.specs.Edges.{entryOf, noEntry}
-use Rattle.spec.specs.Assembly.{foldStep, foldHops, idBelow, stopAt, isPeerHop, isPeerEdge, atShortcut, hopOf, hopCount, usedEntries, inDirection, hopsOf, infoOf}
-use Rattle.spec.specs.Router.{isLast, against, along, walkInfo, hopEntry, hopEntries, idHeld}
+use Rattle.spec.specs.Assembly.{foldStep, foldMacs, macOf, idBelow, stopAt, isPeerHop, isPeerEdge, atShortcut, hopOf, hopCount, usedEntries, inDirection, hopsOf, infoOf}
+use Rattle.spec.specs.Router.{isNone, against, along, walkInfo, isAlong, hopEntry, hopEntries, idHeld}
 use Rattle.spec.proofs.Lists.{map-append, map-reverse, reverse-range, range-up, range-down}
 use Rattle.spec.proofs.Membership.{not-both}
 use Rattle.spec.proofs.Xor.{xor-cancel}
 
-fold-append : (id : ℕ) (xs ys : List HopField) → foldHops id (xs ++ ys) ≡ foldHops (foldHops id xs) ys
-unfolding foldHops
+fold-append : (id : ℕ) (xs ys : List (List ℕ)) → foldMacs id (xs ++ ys) ≡ foldMacs (foldMacs id xs) ys
+unfolding foldMacs
 fold-append id [] ys = refl
 fold-append id (x ∷ xs) ys = fold-append (foldStep id x) xs ys
 
 -- one entry more
-pub idBelow-next : (seg : Segment) (i : ℕ) → i < length (seg .entries) → foldStep (idBelow seg i) (entryOf seg i .own .hop) ≡ idBelow seg (i + 1)
-unfolding idBelow foldHops entryOf
+pub idBelow-next : (seg : Segment) (i : ℕ) → i < length (seg .entries) → foldStep (idBelow seg i) (entryOf seg i .own .hop .mac) ≡ idBelow seg (i + 1)
+unfolding idBelow foldMacs entryOf macOf
 idBelow-next seg i h =
-    let hop : Entry → HopField = λ x. x .own .hop in
     sym
-    (ap (λ n. foldHops (seg .id) (map hop (take n (seg .entries)))) (add-one i)
-    ∙ ap (λ l. foldHops (seg .id) (map hop l)) (take-suc (seg .entries) i noEntry h)
-    ∙ ap (foldHops (seg .id)) (map-append hop (take i (seg .entries)) (getD (seg .entries) i noEntry ∷ []))
-    ∙ fold-append (seg .id) (map hop (take i (seg .entries))) (hop (getD (seg .entries) i noEntry) ∷ []))
+    (ap (λ n. foldMacs (seg .id) (map macOf (take n (seg .entries)))) (add-one i)
+    ∙ ap (λ l. foldMacs (seg .id) (map macOf l)) (take-suc (seg .entries) i noEntry h)
+    ∙ ap (foldMacs (seg .id)) (map-append macOf (take i (seg .entries)) (getD (seg .entries) i noEntry ∷ []))
+    ∙ fold-append (seg .id) (map macOf (take i (seg .entries))) (macOf (getD (seg .entries) i noEntry) ∷ []))
 
-fold-twice : (id : ℕ) (hop : HopField) → foldStep (foldStep id hop) hop ≡ id
+fold-twice : (id : ℕ) (mac : List ℕ) → foldStep (foldStep id mac) mac ≡ id
 unfolding foldStep
-fold-twice id hop = xor-cancel id _
+fold-twice id mac = xor-cancel id _
 
 and-comm : (s t : Bool) → (s && t) ≡ (t && s)
 and-comm true true = refl
@@ -95,7 +94,7 @@ module _ (seg : Segment) (e : Edge) where
   along-regular (suc k) i h r =
       let q : isPeerHop e i ≡ false = r i (le-refl i) (omega arith) in
       ap₂ (λ x l. x ∷ l) (sym (regular-held i q))
-      (ap (λ id. along false id (map (hopOf seg e) (range (i + 1) k))) (ap (foldStep (idBelow seg i)) (regular-hop i q) ∙ idBelow-next seg i (omega arith))
+      (ap (λ id. along false id (map (hopOf seg e) (range (i + 1) k))) (ap (λ (x : HopField). foldStep (idBelow seg i) (x .mac)) (regular-hop i q) ∙ idBelow-next seg i (omega arith))
       ∙ along-regular k (i + 1) (omega arith) (λ j a b. r j (omega arith) (omega arith)))
 
   along-peer : (k : ℕ) → isPeerEdge e ≡ true → e .shortcut + suc k ≤ length (seg .entries)
@@ -107,39 +106,39 @@ module _ (seg : Segment) (e : Edge) where
 
   -- ---- against construction
 
-  last-none : (k : ℕ) → isLast (map (hopOf seg e) (reverse (range (e .shortcut) (suc k)))) ≡ false
-  unfolding isLast
+  last-none : (k : ℕ) → isNone (map (hopOf seg e) (reverse (range (e .shortcut) (suc k)))) ≡ false
+  unfolding isNone
   last-none k = rw reverse-range
 
   -- the last hop
   against-last : e .shortcut + 1 ≤ length (seg .entries)
       → against (isPeerEdge e) false (idBelow seg (e .shortcut + 1)) (hopOf seg e (e .shortcut) ∷ []) ≡ idHeld seg e (e .shortcut) ∷ []
-  unfolding against isLast
+  unfolding against isNone
   against-last h = go (isPeerEdge e) refl
     where
       id : ℕ
       id = idBelow seg (e .shortcut + 1)
 
-      go : (t : Bool) → isPeerEdge e ≡ t → (if t && true then id else foldStep id (hopOf seg e (e .shortcut))) ∷ [] ≡ idHeld seg e (e .shortcut) ∷ []
+      go : (t : Bool) → isPeerEdge e ≡ t → (if t && true then id else foldStep id (hopOf seg e (e .shortcut) .mac)) ∷ [] ≡ idHeld seg e (e .shortcut) ∷ []
       go true q = ap (λ x. x ∷ []) (sym (peer-held (e .shortcut) (shortcut-peer q)))
       go false q = ap (λ x. x ∷ []) (unfolded (no-peer-regular (e .shortcut) q))
         where
-          unfolded : isPeerHop e (e .shortcut) ≡ false → foldStep id (hopOf seg e (e .shortcut)) ≡ idHeld seg e (e .shortcut)
+          unfolded : isPeerHop e (e .shortcut) ≡ false → foldStep id (hopOf seg e (e .shortcut) .mac) ≡ idHeld seg e (e .shortcut)
           unfolded r =
-              ap (λ x. foldStep x (hopOf seg e (e .shortcut))) (sym (idBelow-next seg (e .shortcut) (omega arith)))
-              ∙ ap (foldStep (foldStep (idBelow seg (e .shortcut)) (entryOf seg (e .shortcut) .own .hop))) (regular-hop (e .shortcut) r)
+              ap (λ x. foldStep x (hopOf seg e (e .shortcut) .mac)) (sym (idBelow-next seg (e .shortcut) (omega arith)))
+              ∙ ap (λ (x : HopField). foldStep (foldStep (idBelow seg (e .shortcut)) (entryOf seg (e .shortcut) .own .hop .mac)) (x .mac)) (regular-hop (e .shortcut) r)
               ∙ fold-twice _ _
               ∙ sym (regular-held (e .shortcut) r)
 
   -- a hop above the shortcut folds the entry's MAC out again
-  folds-out : (i : ℕ) → i < length (seg .entries) → isPeerHop e i ≡ false → foldStep (idBelow seg (i + 1)) (hopOf seg e i) ≡ idBelow seg i
+  folds-out : (i : ℕ) → i < length (seg .entries) → isPeerHop e i ≡ false → foldStep (idBelow seg (i + 1)) (hopOf seg e i .mac) ≡ idBelow seg i
   folds-out i h r =
-      ap (foldStep (idBelow seg (i + 1))) (regular-hop i r)
-      ∙ ap (λ x. foldStep x (entryOf seg i .own .hop)) (sym (idBelow-next seg i h))
+      ap (λ (x : HopField). foldStep (idBelow seg (i + 1)) (x .mac)) (regular-hop i r)
+      ∙ ap (λ x. foldStep x (entryOf seg i .own .hop .mac)) (sym (idBelow-next seg i h))
       ∙ fold-twice _ _
 
-  against-regular : (id : ℕ) (h : HopField) (hs : List HopField) → isLast hs ≡ false
-      → against (isPeerEdge e) false id (h ∷ hs) ≡ foldStep id h ∷ against (isPeerEdge e) false (foldStep id h) hs
+  against-regular : (id : ℕ) (h : HopField) (hs : List HopField) → isNone hs ≡ false
+      → against (isPeerEdge e) false id (h ∷ hs) ≡ foldStep id (h .mac) ∷ against (isPeerEdge e) false (foldStep id (h .mac)) hs
   unfolding against
   against-regular id h hs q = rw q (go (isPeerEdge e))
     where
@@ -147,8 +146,8 @@ module _ (seg : Segment) (e : Edge) where
       P = isPeerEdge e
 
       go : (t : Bool)
-          → (if t && false then id else foldStep id h) ∷ against P false (if t && false then id else foldStep id h) hs
-          ≡ foldStep id h ∷ against P false (foldStep id h) hs
+          → (if t && false then id else foldStep id (h .mac)) ∷ against P false (if t && false then id else foldStep id (h .mac)) hs
+          ≡ foldStep id (h .mac) ∷ against P false (foldStep id (h .mac)) hs
       go true = refl
       go false = refl
 
@@ -161,8 +160,8 @@ module _ (seg : Segment) (e : Edge) where
   against-rest (suc (suc k)) h =
       let i : ℕ = e .shortcut + suc k in
       let r : isPeerHop e i ≡ false = above-regular i (omega arith) in
-      let held : foldStep (idBelow seg (e .shortcut + suc (suc k))) (hopOf seg e i) ≡ idBelow seg i =
-      ap (λ n. foldStep (idBelow seg n) (hopOf seg e i)) (omega arith) ∙ folds-out i (omega arith) r in
+      let held : foldStep (idBelow seg (e .shortcut + suc (suc k))) (hopOf seg e i .mac) ≡ idBelow seg i =
+      ap (λ n. foldStep (idBelow seg n) (hopOf seg e i .mac)) (omega arith) ∙ folds-out i (omega arith) r in
       ap (λ l. against (isPeerEdge e) false (idBelow seg (e .shortcut + suc (suc k))) (map (hopOf seg e) l)) (reverse-range (e .shortcut) (suc k))
       ∙ against-regular (idBelow seg (e .shortcut + suc (suc k))) (hopOf seg e i) (map (hopOf seg e) (reverse (range (e .shortcut) (suc k)))) (last-none k)
       ∙ ap (λ id. id ∷ against (isPeerEdge e) false id (map (hopOf seg e) (reverse (range (e .shortcut) (suc k))))) held
@@ -172,9 +171,9 @@ module _ (seg : Segment) (e : Edge) where
   -- ---- an info and its hops
 
   -- the entries of the hops are those that the edge uses, in its direction
-  entries-used : hopEntries seg e ≡ inDirection (e .construction) (usedEntries seg e)
+  entries-used : e .construction ≡ isAlong seg e → hopEntries seg e ≡ inDirection (e .construction) (usedEntries seg e)
   unfolding hopEntries hopEntry inDirection usedEntries
-  entries-used = go (e .construction)
+  entries-used dir = go (isAlong seg e) ∙ ap (λ t. inDirection t (usedEntries seg e)) (sym dir)
     where
       s : ℕ
       s = e .shortcut
@@ -202,9 +201,9 @@ module _ (seg : Segment) (e : Edge) where
       go false = down (ltb n s) refl
 
   -- the hops are those of the entries
-  pub hops-entries : hopsOf seg e ≡ map (hopOf seg e) (hopEntries seg e)
+  pub hops-entries : e .construction ≡ isAlong seg e → hopsOf seg e ≡ map (hopOf seg e) (hopEntries seg e)
   unfolding hopsOf inDirection
-  hops-entries = go (e .construction) ∙ ap (map (hopOf seg e)) (sym entries-used)
+  hops-entries dir = go (e .construction) ∙ ap (map (hopOf seg e)) (sym (entries-used dir))
     where
       go : (t : Bool)
           → (if t then reverse (map (hopOf seg e) (usedEntries seg e)) else map (hopOf seg e) (usedEntries seg e))
@@ -213,7 +212,7 @@ module _ (seg : Segment) (e : Edge) where
       go false = refl
 
   -- k is how many hops there are, less one
-  module _ (k : ℕ) (len : length (seg .entries) ≡ e .shortcut + suc k) where
+  module _ (dir : e .construction ≡ isAlong seg e) (k : ℕ) (len : length (seg .entries) ≡ e .shortcut + suc k) where
     count-suc : hopCount seg e ≡ suc k
     unfolding hopCount
     count-suc = omega arith
@@ -221,12 +220,12 @@ module _ (seg : Segment) (e : Edge) where
     entries-along : e .construction ≡ true → hopEntries seg e ≡ range (e .shortcut) (suc k)
     unfolding inDirection usedEntries
     entries-along q =
-        entries-used ∙ ap (λ t. inDirection t (usedEntries seg e)) q ∙ reverse-reverse (range (e .shortcut) (hopCount seg e)) ∙ ap (range (e .shortcut)) count-suc
+        entries-used dir ∙ ap (λ t. inDirection t (usedEntries seg e)) q ∙ reverse-reverse (range (e .shortcut) (hopCount seg e)) ∙ ap (range (e .shortcut)) count-suc
 
     entries-against : e .construction ≡ false → hopEntries seg e ≡ (e .shortcut + k) ∷ reverse (range (e .shortcut) k)
     unfolding inDirection usedEntries
     entries-against q =
-        entries-used ∙ ap (λ t. inDirection t (usedEntries seg e)) q ∙ ap (λ n. reverse (range (e .shortcut) n)) count-suc ∙ reverse-range (e .shortcut) k
+        entries-used dir ∙ ap (λ t. inDirection t (usedEntries seg e)) q ∙ ap (λ n. reverse (range (e .shortcut) n)) count-suc ∙ reverse-range (e .shortcut) k
 
   -- where the fold stops, by direction
   stop : Bool → ℕ
@@ -290,21 +289,21 @@ module _ (seg : Segment) (e : Edge) where
       ∙ against-start (idHeld seg e (e .shortcut + k)) (hopOf seg e (e .shortcut + k)) (map (hopOf seg e) (reverse (range (e .shortcut) k)))
       ∙ ap (λ l. idHeld seg e (e .shortcut + k) ∷ l) (against-after k len)
 
-  walk-entries : (k : ℕ) → length (seg .entries) ≡ e .shortcut + suc k → (t : Bool) → e .construction ≡ t
+  walk-entries : e .construction ≡ isAlong seg e → (k : ℕ) → length (seg .entries) ≡ e .shortcut + suc k → (t : Bool) → e .construction ≡ t
       → walkInfo (infoOf seg e) (map (hopOf seg e) (hopEntries seg e)) ≡ map (idHeld seg e) (hopEntries seg e)
-  walk-entries k len true q =
-      ap (λ l. walkInfo (infoOf seg e) (map (hopOf seg e) l)) (entries-along k len q)
+  walk-entries dir k len true q =
+      ap (λ l. walkInfo (infoOf seg e) (map (hopOf seg e) l)) (entries-along dir k len q)
       ∙ walk-by true q (map (hopOf seg e) (range (e .shortcut) (suc k)))
       ∙ along-all k (omega arith)
-      ∙ ap (map (idHeld seg e)) (sym (entries-along k len q))
-  walk-entries k len false q =
-      ap (λ l. walkInfo (infoOf seg e) (map (hopOf seg e) l)) (entries-against k len q)
+      ∙ ap (map (idHeld seg e)) (sym (entries-along dir k len q))
+  walk-entries dir k len false q =
+      ap (λ l. walkInfo (infoOf seg e) (map (hopOf seg e) l)) (entries-against dir k len q)
       ∙ walk-by false q (map (hopOf seg e) ((e .shortcut + k) ∷ reverse (range (e .shortcut) k)))
       ∙ against-all k len
-      ∙ ap (map (idHeld seg e)) (sym (entries-against k len q))
+      ∙ ap (map (idHeld seg e)) (sym (entries-against dir k len q))
 
   -- the ids held at the hops of an edge
-  pub walk-info : e .shortcut < length (seg .entries) → walkInfo (infoOf seg e) (hopsOf seg e) ≡ map (idHeld seg e) (hopEntries seg e)
-  walk-info h =
-      ap (walkInfo (infoOf seg e)) hops-entries
-      ∙ walk-entries (length (seg .entries) - 1 - e .shortcut) (omega arith) (e .construction) refl
+  pub walk-info : e .construction ≡ isAlong seg e → e .shortcut < length (seg .entries) → walkInfo (infoOf seg e) (hopsOf seg e) ≡ map (idHeld seg e) (hopEntries seg e)
+  walk-info dir h =
+      ap (walkInfo (infoOf seg e)) (hops-entries dir)
+      ∙ walk-entries dir (length (seg .entries) - 1 - e .shortcut) (omega arith) (e .construction) refl

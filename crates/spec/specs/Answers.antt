@@ -1,6 +1,6 @@
 -- What listing and assembly answer, and what they leave in the output: on every book, source, destination and output length.
 -- Assumes nothing.
-use Prim.Native.Nat.{ℕ}
+use Prim.Native.Nat.{ℕ, _+_}
 use mathlib.Core.List.{List, [], _∷_, flatMap}
 use lib.ListN.{length, replicate}
 use lib.Dec.{ltb}
@@ -19,7 +19,7 @@ use Rattle.spec.specs.Basics.{if_then_else_, padded, sameList}
 use Rattle.spec.specs.Book.{verdict}
 use Rattle.spec.specs.Chains.{chains}
 use Rattle.spec.specs.Order.{solutions}
-use Rattle.spec.specs.Assembly.{combinedPath, isLoop, isBare}
+use Rattle.spec.specs.Assembly.{CombinedPath, combinedPath, outcome}
 use Rattle.spec.specs.Records.{solutionOctets, pathOctets, slots}
 
 -- the numbered answers
@@ -34,6 +34,25 @@ refusalNumber Misfit = 7
 refusalNumber Full = 8
 refusalNumber Small = 9
 refusalNumber Stranger = 10
+
+-- the answer about a book as a number: 0 for an accepted one, or the refusal's
+abbrev pub verdictNumber : Verdict → ℕ
+verdictNumber Accepted = 0
+verdictNumber (RefusedBook r) = refusalNumber r
+
+-- listing's and assembly's answers as the numbers that the exported functions return: a refusal is told by being past `refusals`
+abbrev pub refusals : ℕ
+refusals = 65536
+
+abbrev pub listNumber : ListAnswer → ℕ
+listNumber (Count n) = n
+listNumber (RefusedList r) = refusals + refusalNumber r
+
+abbrev pub pathNumber : PathAnswer → ℕ
+pathNumber Path = 0
+pathNumber Loop = 1
+pathNumber Bare = 2
+pathNumber (RefusedPath r) = refusals + refusalNumber r
 
 -- an answer, and the bytes that the output then holds
 abbrev pub Listed : Type 0
@@ -65,12 +84,15 @@ listing digest b src dst bytes = listingOn (verdict b) bytes (solutions digest b
 unfoldable pub refusedPath : ℕ → Refusal → Assembled
 refusedPath bytes r = (RefusedPath r, replicate bytes 0)
 
--- a chain's path; Loop and Bare leave zeros
+-- what an outcome leaves in the output: the path's record; Loop and Bare leave zeros
+abbrev pub leftBy : PathAnswer → ℕ → CombinedPath → List ℕ
+leftBy Path bytes p = padded bytes (pathOctets p)
+leftBy Loop bytes p = replicate bytes 0
+leftBy Bare bytes p = replicate bytes 0
+leftBy (RefusedPath r) bytes p = replicate bytes 0
+
 unfoldable pub pathAnswer : List ℕ → ℕ → List Edge → Assembled
-pathAnswer b bytes c =
-    if isLoop (combinedPath b c .interfaces) then (Loop, replicate bytes 0)
-    else if isBare (combinedPath b c .interfaces) then (Bare, replicate bytes 0)
-    else (Path, padded bytes (pathOctets (combinedPath b c)))
+pathAnswer b bytes c = (outcome (combinedPath b c), leftBy (outcome (combinedPath b c)) bytes (combinedPath b c))
 
 -- the chain that the record is of; a record of no chain is a stranger's
 unfoldable pub pathOfRecord : List ℕ → ℕ → List ℕ → List (List Edge) → Assembled

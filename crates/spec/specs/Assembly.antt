@@ -11,10 +11,12 @@ use Rattle.spec.specs.declared.HopField.{HopField}
 use Rattle.spec.specs.declared.InfoField.{InfoField}
 use Rattle.spec.specs.declared.PathInterface.{PathInterface}
 use Rattle.spec.specs.declared.Edge.{Edge}
+use Rattle.spec.specs.declared.PathAnswer.{PathAnswer}
+use Rattle.spec.specs.declared.PathAnswer.the-variants.{Path, Loop, Bare}
 use Rattle.spec.specs.Limits.{maxTime, maxMtu}
 use Rattle.spec.specs.Basics.{if_then_else_, any, filter, range}
 use Rattle.spec.specs.Octets.{be16}
-use Rattle.spec.specs.Book.{Segment, segmentAt}
+use Rattle.spec.specs.Book.{Entry, Segment, segmentAt}
 use Rattle.spec.specs.Edges.{sameAs, entryOf, asOf, peerOf}
 
 -- the least of some numbers and of m
@@ -74,16 +76,20 @@ module _ {A : Type 0} where
 -- ---- ids
 
 -- one fold step: id XOR the first two MAC bytes
-unfoldable pub foldStep : ℕ → HopField → ℕ
-foldStep id hop = bitXor id (be16 (hop .mac) 0)
+unfoldable pub foldStep : ℕ → List ℕ → ℕ
+foldStep id mac = bitXor id (be16 mac 0)
 
-unfoldable pub foldHops : ℕ → List HopField → ℕ
-foldHops id [] = id
-foldHops id (hop ∷ hops) = foldHops (foldStep id hop) hops
+unfoldable pub foldMacs : ℕ → List (List ℕ) → ℕ
+foldMacs id [] = id
+foldMacs id (mac ∷ macs) = foldMacs (foldStep id mac) macs
+
+-- an entry's regular MAC
+unfoldable pub macOf : Entry → List ℕ
+macOf x = x .own .hop .mac
 
 -- the segment's id folded over the regular MACs of the entries below k
 unfoldable pub idBelow : Segment → ℕ → ℕ
-idBelow seg k = foldHops (seg .id) (map (λ x. x .own .hop) (take k (seg .entries)))
+idBelow seg k = foldMacs (seg .id) (map macOf (take k (seg .entries)))
 
 -- k = s in construction direction, else n - 1; with a peer and s = k, k + 1
 unfoldable pub stopAt : Segment → Edge → ℕ
@@ -93,9 +99,12 @@ stopAt seg e =
 
 -- ---- expiry
 
--- seconds that a hop of so many units lives
+-- how long a hop of so many units lives, in seconds
 unfoldable pub life : ℕ → ℕ
 life units = (units + 1) * 675 / 2
+
+unfoldable pub unitsOf : HopField → ℕ
+unitsOf h = h .units
 
 -- ---- the path
 
@@ -119,9 +128,9 @@ module _ (seg : Segment) (e : Edge) where
         timestamp = seg .timestamp;
       }
 
-  -- timestamp plus the life of the smallest units among the hops, stopping at maxTime
+  -- timestamp plus the life of the smallest units among the hops on the path, stopping at maxTime
   unfoldable pub expiryOf : ℕ
-  expiryOf = min maxTime (seg .timestamp + life (least 255 (map (λ h. h .units) hopsOf)))
+  expiryOf = min maxTime (seg .timestamp + life (least 255 (map unitsOf hopsOf)))
 
 pub record CombinedPath : Type 0 where
   pub infos : List InfoField
@@ -134,25 +143,56 @@ pub record CombinedPath : Type 0 where
 unfoldable pub segmentOf : List ℕ → Edge → Segment
 segmentOf b e = segmentAt b (e .position)
 
-unfoldable pub combinedPath : List ℕ → List Edge → CombinedPath
-combinedPath b c =
-    record {
-      infos = map (λ e. infoOf (segmentOf b e) e) c;
-      hops = flatMap (λ e. hopsOf (segmentOf b e) e) c;
-      interfaces = flatMap (λ e. interfacesOf (segmentOf b e) e) c;
-      mtu = least maxMtu (flatMap (λ e. mtusOf (segmentOf b e) e) c);
-      expiry = least maxTime (map (λ e. expiryOf (segmentOf b e) e) c);
-    }
+-- what an edge of the book contributes
+module _ (b : List ℕ) where
+  unfoldable pub infoOn : Edge → InfoField
+  infoOn e = infoOf (segmentOf b e) e
+
+  unfoldable pub hopsOn : Edge → List HopField
+  hopsOn e = hopsOf (segmentOf b e) e
+
+  unfoldable pub interfacesOn : Edge → List PathInterface
+  interfacesOn e = interfacesOf (segmentOf b e) e
+
+  unfoldable pub mtusOn : Edge → List ℕ
+  mtusOn e = mtusOf (segmentOf b e) e
+
+  unfoldable pub expiryOn : Edge → ℕ
+  expiryOn e = expiryOf (segmentOf b e) e
+
+  -- the path of a chain: its MTU is the least of all, and so is its expiry
+  unfoldable pub combinedPath : List Edge → CombinedPath
+  combinedPath c =
+      record {
+        infos = map infoOn c;
+        hops = flatMap hopsOn c;
+        interfaces = flatMap interfacesOn c;
+        mtu = least maxMtu (flatMap mtusOn c);
+        expiry = least maxTime (map expiryOn c);
+      }
 
 -- ---- Loop and Bare
 
+unfoldable pub isOf : IsdAsn → PathInterface → Bool
+isOf a i = sameAs (i .local) a
+
+-- how often an AS is shown
 unfoldable pub timesOf : IsdAsn → List PathInterface → ℕ
-timesOf a is = length (filter (λ i. sameAs (i .local) a) is)
+timesOf a is = length (filter (isOf a) is)
+
+-- the interface's AS is shown more than twice
+unfoldable pub isCrowded : List PathInterface → PathInterface → Bool
+isCrowded is i = ltb 2 (timesOf (i .local) is)
 
 -- the interfaces show one AS more than twice
 unfoldable pub isLoop : List PathInterface → Bool
-isLoop is = any (λ i. ltb 2 (timesOf (i .local) is)) is
+isLoop is = any (isCrowded is) is
 
+-- there are no interfaces
 unfoldable pub isBare : List PathInterface → Bool
 isBare [] = true
 isBare (i ∷ is) = false
+
+-- the answer to a chain: its path, or Loop, or Bare
+unfoldable pub outcome : CombinedPath → PathAnswer
+outcome p = if isLoop (p .interfaces) then Loop else if isBare (p .interfaces) then Bare else Path

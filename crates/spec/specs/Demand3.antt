@@ -8,10 +8,10 @@ use mathlib.Core.Path.{_≡_}
 use mathlib.Core.List.{List, [], _∷_, flatMap, List·Memᴰ}
 use Rattle.spec.specs.declared.IsdAsn.{IsdAsn}
 use Rattle.spec.specs.declared.Edge.{Edge}
-use Rattle.spec.specs.declared.PathAnswer.the-variants.{Path, Loop, Bare}
+use Rattle.spec.specs.declared.PathAnswer.the-variants.{Path, Loop, Bare, Refused as RefusedPath}
 use Rattle.spec.specs.declared.ListAnswer.the-variants.{Count, Refused as RefusedList}
-use Rattle.spec.specs.declared.Refusal.the-variants.{Full}
-use Rattle.spec.specs.Basics.{padded}
+use Rattle.spec.specs.declared.Refusal.the-variants.{Full, Stranger}
+use Rattle.spec.specs.Basics.{padded, Once}
 use Rattle.spec.specs.Assembly.{combinedPath, isLoop, isBare}
 use Rattle.spec.specs.Limits.{pathSize}
 use Rattle.spec.specs.Chains.{IsChain}
@@ -30,6 +30,7 @@ pub record Demand3 (digest : List ℕ → List ℕ) (b : List ℕ) (src dst : Is
   pub sound : (c : List Edge) → List·Memᴰ c (solutions digest b src dst) → IsChain b src dst c
   pub complete : (c : List Edge) → IsChain b src dst c → List·Memᴰ c (solutions digest b src dst)
   -- each once, in order: no two tie
+  pub once : Once (solutions digest b src dst)
   pub ordered : InOrder digest b (solutions digest b src dst)
   -- with a slot for every chain, their count and their records, in the order; with fewer slots, Full
   pub listed : (bytes : ℕ) → length (solutions digest b src dst) ≤ slots bytes
@@ -43,6 +44,9 @@ pub record Demand3 (digest : List ℕ → List ℕ) (b : List ℕ) (src dst : Is
       → isLoop (combinedPath b c .interfaces) ≡ true → assembly b src dst (solutionOctets c) bytes ≡ (Loop, replicate bytes 0)
   pub bare : (c : List Edge) → IsChain b src dst c → (bytes : ℕ) → pathSize ≤ bytes
       → isBare (combinedPath b c .interfaces) ≡ true → assembly b src dst (solutionOctets c) bytes ≡ (Bare, replicate bytes 0)
+  -- what is no chain's record is a stranger's
+  pub stranger : (given : List ℕ) → ((c : List Edge) → IsChain b src dst c → given ≡ solutionOctets c → ⊥) → (bytes : ℕ) → pathSize ≤ bytes
+      → assembly b src dst given bytes ≡ (RefusedPath Stranger, replicate bytes 0)
   -- and a path that it answers is the one that a router needs
   pub routed : (c : List Edge) → IsChain b src dst c → (bytes : ℕ) → pathSize ≤ bytes
       → assembly b src dst (solutionOctets c) bytes .0 ≡ Path → RouterAgrees b c (assembly b src dst (solutionOctets c) bytes .1)

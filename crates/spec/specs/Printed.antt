@@ -3,7 +3,7 @@
 use Prim.Native.Nat.{ℕ, zero, suc, _+_, _*_, _/_, _%_, _^_}
 use Prim.Native.Char.{code}
 use Prim.Native.String.{String}
-use mathlib.Core.Bool.{Bool, not, _||_}
+use mathlib.Core.Bool.{Bool, true, false}
 use mathlib.Core.List.{List, [], _∷_, _++_, flatMap}
 use lib.ListN.{length, drop}
 use lib.Dec.{ltb}
@@ -11,6 +11,8 @@ use Rattle.spec.specs.declared.InfoField.{InfoField}
 use Rattle.spec.specs.declared.PathInterface.{PathInterface}
 use Rattle.spec.specs.declared.Edge.{Edge}
 use Rattle.spec.specs.declared.Refusal.{Refusal}
+use Rattle.spec.specs.declared.PathAnswer.{PathAnswer}
+use Rattle.spec.specs.declared.PathAnswer.the-variants.{Path, Loop, Bare, Refused as RefusedPath}
 use Rattle.spec.specs.declared.Refusal.the-variants.{Cut, Full}
 use Rattle.spec.specs.declared.Verdict.{Verdict}
 use Rattle.spec.specs.declared.Verdict.the-variants.{Accepted, Refused}
@@ -18,7 +20,7 @@ use Rattle.spec.specs.Limits.{maxSlots}
 use Rattle.spec.specs.Basics.{if_then_else_, filter}
 use Rattle.spec.specs.Book.{verdict, isdAsnAt}
 use Rattle.spec.specs.Order.{cost, solutions}
-use Rattle.spec.specs.Assembly.{CombinedPath, combinedPath, isLoop, isBare}
+use Rattle.spec.specs.Assembly.{CombinedPath, combinedPath, outcome}
 use Rattle.spec.specs.Records.{bit}
 use Rattle.spec.specs.Answers.{refusalNumber}
 
@@ -69,27 +71,40 @@ pathLines p =
     ++ flatMap infoLine (p .infos)
     ++ flatMap interfaceLine (p .interfaces)
 
+-- the named fields, or in their place only loop or bare, with no lines below
+abbrev pub linesBy : PathAnswer → CombinedPath → List ℕ
+linesBy Path p = pathLines p
+linesBy Loop p = ascii " loop" ++ newline
+linesBy Bare p = ascii " bare" ++ newline
+linesBy (RefusedPath r) p = []
+
 unfoldable pub outcomeLines : CombinedPath → List ℕ
-outcomeLines p =
-    if isLoop (p .interfaces) then ascii " loop" ++ newline
-    else if isBare (p .interfaces) then ascii " bare" ++ newline
-    else pathLines p
+outcomeLines p = linesBy (outcome p) p
 
 -- its number, cost, edges, then the named fields, or loop or bare
 unfoldable pub solutionLines : List ℕ → ℕ → List Edge → List ℕ
 solutionLines b number c =
     decimal number ++ item " cost " (cost c) ++ item " segments " (length c) ++ outcomeLines (combinedPath b c)
 
+-- the solutions, numbered from 1
 unfoldable pub solutionsLines : List ℕ → ℕ → List (List Edge) → List ℕ
 solutionsLines b number [] = []
 solutionsLines b number (c ∷ cs) = solutionLines b number c ++ solutionsLines b (number + 1) cs
 
-unfoldable pub hasPath : List ℕ → List Edge → Bool
-hasPath b c = not (isLoop (combinedPath b c .interfaces) || isBare (combinedPath b c .interfaces))
+abbrev pub isPath : PathAnswer → Bool
+isPath Path = true
+isPath Loop = false
+isPath Bare = false
+isPath (RefusedPath r) = false
 
+unfoldable pub hasPath : List ℕ → List Edge → Bool
+hasPath b c = isPath (outcome (combinedPath b c))
+
+-- a refusal prints its number
 unfoldable pub refusedLine : Refusal → List ℕ
 refusedLine r = item "refused " (refusalNumber r) ++ newline
 
+-- the counts of solutions and of those with a path, then each solution
 unfoldable pub listLines : List ℕ → List (List Edge) → List ℕ
 listLines b found =
     if ltb maxSlots (length found) then refusedLine Full
@@ -100,6 +115,7 @@ abbrev pub printedOn : Verdict → List ℕ → List (List Edge) → List ℕ
 printedOn Accepted b found = listLines b found
 printedOn (Refused r) b found = refusedLine r
 
+-- under 16 bytes is answer 1
 unfoldable pub printed : (List ℕ → List ℕ) → List ℕ → List ℕ
 printed digest input =
     let b : List ℕ = drop 16 input in

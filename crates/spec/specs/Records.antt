@@ -1,6 +1,6 @@
 -- The bytes of a solution and of a path.
 -- Assumes nothing.
-use Prim.Native.Nat.{ℕ, _+_, _-_, _*_, _/_, min, Ordering}
+use Prim.Native.Nat.{ℕ, _+_, _-_, _*_, _/_, min}
 use mathlib.Core.Bool.{Bool}
 use mathlib.Core.List.{List, [], _∷_, _++_, map, flatMap}
 use lib.ListN.{length, getD}
@@ -11,11 +11,13 @@ use Rattle.spec.specs.declared.InfoField.{InfoField}
 use Rattle.spec.specs.declared.PathInterface.{PathInterface}
 use Rattle.spec.specs.declared.Edge.{Edge}
 use Rattle.spec.specs.declared.SolutionEdge.{SolutionEdge}
-use Rattle.spec.specs.Limits.{solutionSize, maxSlots}
+use Rattle.spec.specs.declared.Solution.{Solution}
+use Rattle.spec.specs.declared.Path.{Path}
+use Rattle.spec.specs.Limits.{maxEdges, solutionSize, solutionHeadSize, edgeSize, maxSlots}
 use Rattle.spec.specs.Basics.{if_then_else_, range, padded}
-use Rattle.spec.specs.Octets.{be16, octets2, octets4, octets8}
+use Rattle.spec.specs.Octets.{be16, be32, octets2, octets4, octets8}
 use Rattle.spec.specs.Book.{isdAsnAt}
-use Rattle.spec.specs.Order.{cost, solutionEdge, compareSolutions}
+use Rattle.spec.specs.Order.{cost, solutionEdge}
 use Rattle.spec.specs.Assembly.{CombinedPath}
 
 unfoldable pub bit : Bool → ℕ
@@ -31,15 +33,20 @@ edgeOctets e = e .position ∷ e .shortcut ∷ e .peer ∷ bit (e .construction)
 unfoldable pub solutionOctets : List Edge → List ℕ
 solutionOctets c = padded solutionSize (octets2 (cost c) ++ (length c ∷ 0 ∷ []) ++ flatMap edgeOctets (map solutionEdge c))
 
--- read back: the edge at an offset, the edges of a record, and the order of two records
+-- read back: the edge at an offset
 unfoldable pub edgeAt : List ℕ → ℕ → SolutionEdge
 edgeAt r at = record { position = getD r at 0; shortcut = getD r (at + 1) 0; peer = getD r (at + 2) 0; construction = eqb (getD r (at + 3) 0) 1 }
 
-unfoldable pub edgesIn : List ℕ → List SolutionEdge
-edgesIn r = map (λ k. edgeAt r (4 + 4 * k)) (range 0 (getD r 2 0))
+-- where edge k of a record starts
+unfoldable pub edgeOffset : ℕ → ℕ
+edgeOffset k = solutionHeadSize + edgeSize * k
 
-unfoldable pub compareRecords : (List ℕ → List ℕ) → List ℕ → List ℕ → List ℕ → Ordering
-compareRecords digest b r s = compareSolutions digest b (be16 r 0) (edgesIn r) (be16 s 0) (edgesIn s)
+unfoldable pub recordEdge : List ℕ → ℕ → SolutionEdge
+recordEdge r k = edgeAt r (edgeOffset k)
+
+-- a record as a whole
+unfoldable pub solutionIn : List ℕ → Solution
+solutionIn r = record { cost = be16 r 0; count = getD r 2 0; edges = map (recordEdge r) (range 0 maxEdges) }
 
 -- how many solutions fit in so many bytes
 unfoldable pub slots : ℕ → ℕ
@@ -63,15 +70,48 @@ asOctets a = octets8 (a .0)
 unfoldable pub noInterface : PathInterface
 noInterface = record { local = isdAsnAt [] 0; id = 0 }
 
--- counts of infos, hops, interfaces (1 each), zero 1; MTU 2; expiry 4; first and last interface's AS; infos; hops; all interface ASes, then all interface ids
+unfoldable pub interfaceAsOctets : PathInterface → List ℕ
+interfaceAsOctets i = asOctets (i .local)
+
+unfoldable pub interfaceIdOctets : PathInterface → List ℕ
+interfaceIdOctets i = octets2 (i .id)
+
+-- what a path record says before its infos
+unfoldable pub pathHead : CombinedPath → Path
+pathHead p =
+    record {
+      infos = length (p .infos);
+      hops = length (p .hops);
+      interfaces = length (p .interfaces);
+      mtu = p .mtu;
+      expiry = p .expiry;
+      first = getD (p .interfaces) 0 noInterface .local;
+      last = getD (p .interfaces) (length (p .interfaces) - 1) noInterface .local;
+    }
+
+-- counts of infos, hops, interfaces (1 each), zero 1; MTU 2; expiry 4; first and last interface's AS 8 + 8
+unfoldable pub pathHeadOctets : Path → List ℕ
+pathHeadOctets h =
+    (h .infos ∷ h .hops ∷ h .interfaces ∷ 0 ∷ []) ++ octets2 (h .mtu) ++ octets4 (h .expiry) ++ asOctets (h .first) ++ asOctets (h .last)
+
+-- then infos; hops; all interface ASes, then all interface ids
 unfoldable pub pathOctets : CombinedPath → List ℕ
 pathOctets p =
-    (length (p .infos) ∷ length (p .hops) ∷ length (p .interfaces) ∷ 0 ∷ [])
-    ++ octets2 (p .mtu)
-    ++ octets4 (p .expiry)
-    ++ asOctets (getD (p .interfaces) 0 noInterface .local)
-    ++ asOctets (getD (p .interfaces) (length (p .interfaces) - 1) noInterface .local)
+    pathHeadOctets (pathHead p)
     ++ flatMap infoOctets (p .infos)
     ++ flatMap hopOctets (p .hops)
-    ++ flatMap (λ i. asOctets (i .local)) (p .interfaces)
-    ++ flatMap (λ i. octets2 (i .id)) (p .interfaces)
+    ++ flatMap interfaceAsOctets (p .interfaces)
+    ++ flatMap interfaceIdOctets (p .interfaces)
+
+-- read back
+unfoldable pub pathHeadIn : List ℕ → Path
+pathHeadIn r =
+    record {
+      infos = getD r 0 0;
+      hops = getD r 1 0;
+      interfaces = getD r 2 0;
+      mtu = be16 r 4;
+      expiry = be32 r 6;
+      first = isdAsnAt r 10;
+      last = isdAsnAt r 18;
+    }

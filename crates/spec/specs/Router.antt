@@ -13,7 +13,9 @@ use Rattle.spec.specs.Limits.{pathHeadSize, infoSize, hopSize}
 use Rattle.spec.specs.Basics.{if_then_else_, range}
 use Rattle.spec.specs.Octets.{be16, be32}
 use Rattle.spec.specs.Book.{Segment, macAt}
+use Rattle.spec.specs.Edges.{inConstruction}
 use Rattle.spec.specs.Assembly.{foldStep, idBelow, isPeerHop, isPeerEdge, hopOf, hopCount, segmentOf}
+use Rattle.spec.specs.Records.{pathHeadIn}
 
 -- ---- infos and hops of a path record's bytes
 
@@ -30,30 +32,39 @@ infoAt r at =
 unfoldable pub hopAt : List ℕ → ℕ → HopField
 hopAt r at = record { units = getD r at 0; ingress = be16 r (at + 1); egress = be16 r (at + 3); mac = macAt r (at + 5) }
 
+-- info k, and hop k after as many infos as the record says
+unfoldable pub recordInfo : List ℕ → ℕ → InfoField
+recordInfo r k = infoAt r (pathHeadSize + infoSize * k)
+
+unfoldable pub recordHop : List ℕ → ℕ → HopField
+recordHop r k = hopAt r (pathHeadSize + infoSize * pathHeadIn r .infos + hopSize * k)
+
 unfoldable pub infosIn : List ℕ → List InfoField
-infosIn r = map (λ k. infoAt r (pathHeadSize + infoSize * k)) (range 0 (getD r 0 0))
+infosIn r = map (recordInfo r) (range 0 (pathHeadIn r .infos))
 
 unfoldable pub hopsIn : List ℕ → List HopField
-hopsIn r = map (λ k. hopAt r (pathHeadSize + infoSize * getD r 0 0 + hopSize * k)) (range 0 (getD r 1 0))
+hopsIn r = map (recordHop r) (range 0 (pathHeadIn r .hops))
 
 -- ---- the router: the ids held at the hops, each at its use
 
-unfoldable pub isLast : List HopField → Bool
-isLast [] = true
-isLast (h ∷ hs) = false
+-- no hops follow
+unfoldable pub isNone : List HopField → Bool
+isNone [] = true
+isNone (h ∷ hs) = false
 
 -- against construction: each regular hop after the info's first folds its MAC in before use; the last hop of a peering info is a peer hop
 unfoldable pub against : Bool → Bool → ℕ → List HopField → List ℕ
 against peering first id [] = []
 against peering first id (h ∷ hs) =
-    let held : ℕ = if first || (peering && isLast hs) then id else foldStep id h in
+    let held : ℕ = if first || (peering && isNone hs) then id else foldStep id (h .mac) in
     held ∷ against peering false held hs
 
 -- in construction direction: a regular hop folds its MAC in after use; the first hop of a peering info is a peer hop
 unfoldable pub along : Bool → ℕ → List HopField → List ℕ
 along peerHop id [] = []
-along peerHop id (h ∷ hs) = id ∷ along false (if peerHop then id else foldStep id h) hs
+along peerHop id (h ∷ hs) = id ∷ along false (if peerHop then id else foldStep id (h .mac)) hs
 
+-- the hops of one info, whose id is set first
 unfoldable pub walkInfo : InfoField → List HopField → List ℕ
 walkInfo i hs = if i .construction then along (i .peering) (i .id) hs else against (i .peering) true (i .id) hs
 
@@ -62,15 +73,20 @@ unfoldable pub route : List InfoField → List HopField → List ℕ
 route [] hs = []
 route (i ∷ is) hs = walkInfo i (take (i .hops) hs) ++ route is (drop (i .hops) hs)
 
+-- the router is fed the record's bytes, nothing else
 unfoldable pub routerIds : List ℕ → List ℕ
 routerIds r = route (infosIn r) (hopsIn r)
 
 -- ---- what it is compared with
 
+-- told from the edge's end and the segment's leaf, and not from what assembly goes by
 module _ (seg : Segment) (e : Edge) where
+  unfoldable pub isAlong : Bool
+  isAlong = inConstruction seg (e .dst)
+
   -- the entry m of hop j: m = n - 1 - j against construction, m = s + j in construction direction
   unfoldable pub hopEntry : ℕ → ℕ
-  hopEntry j = if e .construction then e .shortcut + j else length (seg .entries) - 1 - j
+  hopEntry j = if isAlong then e .shortcut + j else length (seg .entries) - 1 - j
 
   -- of all hops, j from 0
   unfoldable pub hopEntries : List ℕ
@@ -89,12 +105,22 @@ pub record InfoShape : Type 0 where
 unfoldable pub shapeOf : InfoField → InfoShape
 shapeOf i = record { construction = i .construction; peering = i .peering; hops = i .hops }
 
+module _ (b : List ℕ) where
+  -- flagged construction exactly where the edge is in construction direction and peering exactly on a peer edge, with n - s hops
+  unfoldable pub shapeOn : Edge → InfoShape
+  shapeOn e = record { construction = isAlong (segmentOf b e) e; peering = isPeerEdge e; hops = hopCount (segmentOf b e) e }
+
+  unfoldable pub entryHopsOn : Edge → List HopField
+  entryHopsOn e = map (hopOf (segmentOf b e) e) (hopEntries (segmentOf b e) e)
+
+  unfoldable pub heldOn : Edge → List ℕ
+  heldOn e = map (idHeld (segmentOf b e) e) (hopEntries (segmentOf b e) e)
+
 -- demand 3's comparison of a chain c of the book b with its path record r
 pub record RouterAgrees (b : List ℕ) (c : List Edge) (r : List ℕ) : Type 0 where
-  -- one info for each edge, in order, flagged construction exactly where the edge is in construction direction and peering exactly on a peer edge, with n - s hops
-  pub infos : map shapeOf (infosIn r)
-      ≡ map (λ e. record { construction = e .construction; peering = isPeerEdge e; hops = hopCount (segmentOf b e) e }) c
+  -- one info for each edge, in order
+  pub infos : map shapeOf (infosIn r) ≡ map (shapeOn b) c
   -- hop j of an info is that of its segment's entry m
-  pub hops : hopsIn r ≡ flatMap (λ e. map (hopOf (segmentOf b e) e) (hopEntries (segmentOf b e) e)) c
+  pub hops : hopsIn r ≡ flatMap (entryHopsOn b) c
   -- the id held there
-  pub held : routerIds r ≡ flatMap (λ e. map (idHeld (segmentOf b e) e) (hopEntries (segmentOf b e) e)) c
+  pub held : routerIds r ≡ flatMap (heldOn b) c
