@@ -78,7 +78,7 @@ module _ {A B : Type 0} (f : A → List B) (size : ℕ) where
   flat-most (x ∷ xs) h =
       omega (arith, suc-mul (length xs) size, length-append (f x) (flatMap f xs), h x (head refl), flat-most xs (λ y m. h y (tail m)))
 
-  flat-exact : (xs : List A) → ((x : A) → Mem x xs → length (f x) ≡ size) → length (flatMap f xs) ≡ length xs * size
+  pub flat-exact : (xs : List A) → ((x : A) → Mem x xs → length (f x) ≡ size) → length (flatMap f xs) ≡ length xs * size
   unfolding flatMap
   flat-exact [] h = sym (zero-mul size)
   flat-exact (x ∷ xs) h =
