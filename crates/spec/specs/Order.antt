@@ -1,6 +1,8 @@
 -- The order of chains, and the ordered list. The fingerprint's digest, SHA-256, is a parameter.
 -- Assumes nothing.
 use Prim.Native.Nat.{ℕ, compare, Ordering, Ordering·lt, Ordering·eq, Ordering·gt}
+use mathlib.Core.Path.{_≡_}
+use mathlib.Core.Logic.{_⊎_}
 use mathlib.Core.Bool.{Bool, true, false}
 use mathlib.Core.List.{List, [], _∷_, _++_, map, flatMap}
 use lib.ListN.{length}
@@ -10,7 +12,7 @@ use Rattle.spec.specs.declared.SolutionEdge.{SolutionEdge}
 use Rattle.spec.specs.Basics.{if_then_else_, sum}
 use Rattle.spec.specs.Octets.{octets2, octets8}
 use Rattle.spec.specs.Book.{Entry, Segment, segmentAt}
-use Rattle.spec.specs.Chains.{chains}
+use Rattle.spec.specs.Chains.{IsChain, chains}
 
 -- ---- comparisons, one after the other
 
@@ -79,6 +81,13 @@ module _ (digest : List ℕ → List ℕ) (b : List ℕ) where
 
   unfoldable pub compareChains : List Edge → List Edge → Ordering
   compareChains c d = compareSolutions (cost c) (map solutionEdge c) (cost d) (map solutionEdge d)
+
+  -- a strict order, and a total one on the chains from a source to a destination: of two different chains one is before the other
+  pub record StrictOrder (src dst : IsdAsn) : Type 0 where
+    pub irreflexive : (c : List Edge) → compareChains c c ≡ Ordering·lt → ⊥
+    pub transitive : (c d e : List Edge) → compareChains c d ≡ Ordering·lt → compareChains d e ≡ Ordering·lt → compareChains c e ≡ Ordering·lt
+    pub total : (c d : List Edge) → IsChain b src dst c → IsChain b src dst d → (c ≡ d → ⊥)
+        → (compareChains c d ≡ Ordering·lt) ⊎ (compareChains d c ≡ Ordering·lt)
 
   unfoldable pub insert : List Edge → List (List Edge) → List (List Edge)
   insert c [] = c ∷ []
