@@ -24,19 +24,19 @@ pub fn byte(s: &[u8], at: usize) -> u8
 pub fn be16(s: &[u8], at: usize) -> u16
     ensures { λ r. ⌜ r ≡ be16 (now (s .entry)) at ⌝ }
 {
-    be16_past(s, at, 0)
+    read16(s, at, 0)
 }
 
 pub fn be32(s: &[u8], at: usize) -> u32
     ensures { λ r. ⌜ r ≡ be32 (now (s .entry)) at ⌝ }
 {
-    be32_past(s, at, 0)
+    read32(s, at, 0)
 }
 
 pub fn be64(s: &[u8], at: usize) -> u64
     ensures { λ r. ⌜ r ≡ be64 (now (s .entry)) at ⌝ }
 {
-    be64_past(s, at, 0)
+    read64(s, at, 0)
 }
 
 // ---- at an offset from a place, where the sum may be no usize
@@ -45,37 +45,25 @@ pub fn be64(s: &[u8], at: usize) -> u64
 pub fn byte_past(s: &[u8], at: usize, i: u8) -> u8
     ensures { λ r. ⌜ r ≡ getD (now (s .entry)) (at + i) 0 ⌝ }
 {
-    past8(s, at, wide(i))
+    read8(s, at, wide(i))
 }
 
 pub fn be16_past(s: &[u8], at: usize, i: u8) -> u16
     ensures { λ r. ⌜ r ≡ be16 (now (s .entry)) (at + i) ⌝ }
 {
-    let k = wide(i);
-    if inside(s.len(), at, k + 2) {
-        return within16(s, at + k);
-    }
-    past16(s, at, k)
+    read16(s, at, wide(i))
 }
 
 pub fn be32_past(s: &[u8], at: usize, i: u8) -> u32
     ensures { λ r. ⌜ r ≡ be32 (now (s .entry)) (at + i) ⌝ }
 {
-    let k = wide(i);
-    if inside(s.len(), at, k + 4) {
-        return within32(s, at + k);
-    }
-    past32(s, at, k)
+    read32(s, at, wide(i))
 }
 
 pub fn be64_past(s: &[u8], at: usize, i: u8) -> u64
     ensures { λ r. ⌜ r ≡ be64 (now (s .entry)) (at + i) ⌝ }
 {
-    let k = wide(i);
-    if inside(s.len(), at, k + 8) {
-        return within64(s, at + k);
-    }
-    past64(s, at, k)
+    read64(s, at, wide(i))
 }
 
 // ---- writes
@@ -249,9 +237,9 @@ fn store64(out: &mut [u8], at: usize, x: u64)
     store32(out, at + 4, (x % 4294967296) as u32);
 }
 
-// ---- near the end and past it
+// ---- i bytes past `at`, where the sum may be no usize
 
-fn past8(s: &[u8], at: usize, i: usize) -> u8
+fn read8(s: &[u8], at: usize, i: usize) -> u8
     ensures { λ r. ⌜ r ≡ getD (now (s .entry)) (at + i) 0 ⌝ }
 {
     let n = s.len();
@@ -264,23 +252,32 @@ fn past8(s: &[u8], at: usize, i: usize) -> u8
     s[at + i]
 }
 
-fn past16(s: &[u8], at: usize, i: usize) -> u16
-    requires { ⌜ i < 512 ⌝ }
+fn read16(s: &[u8], at: usize, i: usize) -> u16
+    requires { ⌜ i + 2 ≤ 512 ⌝ }
     ensures { λ r. ⌜ r ≡ be16 (now (s .entry)) (at + i) ⌝ }
 {
-    wide16(past8(s, at, i)) * 256 + wide16(past8(s, at, i + 1))
+    if inside(s.len(), at, i + 2) {
+        return within16(s, at + i);
+    }
+    wide16(read8(s, at, i)) * 256 + wide16(read8(s, at, i + 1))
 }
 
-fn past32(s: &[u8], at: usize, i: usize) -> u32
-    requires { ⌜ i < 510 ⌝ }
+fn read32(s: &[u8], at: usize, i: usize) -> u32
+    requires { ⌜ i + 4 ≤ 512 ⌝ }
     ensures { λ r. ⌜ r ≡ be32 (now (s .entry)) (at + i) ⌝ }
 {
-    wide32(past16(s, at, i)) * 65536 + wide32(past16(s, at, i + 2))
+    if inside(s.len(), at, i + 4) {
+        return within32(s, at + i);
+    }
+    wide32(read16(s, at, i)) * 65536 + wide32(read16(s, at, i + 2))
 }
 
-fn past64(s: &[u8], at: usize, i: usize) -> u64
-    requires { ⌜ i < 506 ⌝ }
+fn read64(s: &[u8], at: usize, i: usize) -> u64
+    requires { ⌜ i + 8 ≤ 512 ⌝ }
     ensures { λ r. ⌜ r ≡ be64 (now (s .entry)) (at + i) ⌝ }
 {
-    wide64(past32(s, at, i)) * 4294967296 + wide64(past32(s, at, i + 4))
+    if inside(s.len(), at, i + 8) {
+        return within64(s, at + i);
+    }
+    wide64(read32(s, at, i)) * 4294967296 + wide64(read32(s, at, i + 4))
 }

@@ -7,7 +7,7 @@ use Rattle.octets.proofs.be64.Statement.{statement}
 use Rattle.octets.proofs.be64.Tie as tie
 
 returns : tie.Need-returns
-returns c = c .be64-past .ensures ∙ rw add-zero
+returns c = c .read64 .ensures ∙ rw add-zero
 
 pub be64-spec : {M : Type 1} → statement M
 be64-spec = tie.close (tie.spec (λ c κs. search needs) returns)
