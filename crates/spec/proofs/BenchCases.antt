@@ -4,7 +4,7 @@
 -- Assumes nothing.
 use Prim.Native.Nat.{ℕ}
 use mathlib.Core.Bool.{_&&_}
-use mathlib.Core.List.{List, [], _∷_, _++_, flatMap, List·Memᴰ as Mem}
+use mathlib.Core.List.{List, [], _∷_, _++_, flatMap}
 use lib.ListN.{length, replicate}
 use lib.Dec.{T}
 use Rattle.sha256.specs.Words
@@ -22,7 +22,7 @@ use Rattle.spec.specs.Records
 use Rattle.spec.specs.Router
 use Rattle.spec.specs.Answers
 use Rattle.spec.specs.Printed
-use Rattle.spec.proofs.CasesForm.{entry, peer, Draft, segment, book, edge, solution, Question, accept, list, print, assemble, hold, room, live, input, Case, case, answer, right, every, answered, a110, a111, a112, mac0, mac1}
+use Rattle.spec.proofs.CasesForm.{entry, peer, Draft, segment, book, edge, solution, Question, accept, list, print, assemble, hold, room, live, input, Case, case, answer, right, every, a110, a111, a112, mac0, mac1}
 
 -- ---- more ASes and MACs
 
@@ -52,9 +52,7 @@ abbrev pub shortBook : List ℕ
 shortBook =
     book
     []
-    (segment 1000 0x1234 (entry a110 1500 90 9 1 5 mac0 []
-    ∷ entry a111 1300 100 2 3 60 mac1 []
-    ∷ entry a112 1480 1400 4 0 63 mac2 [] ∷ [])
+    (segment 1000 0x1234 (entry a110 1500 90 9 1 5 mac0 [] ∷ entry a111 1300 100 2 3 60 mac1 [] ∷ entry a112 1480 1400 4 0 63 mac2 [] ∷ [])
     ∷ [])
 
 -- two peering links between a111, in the middle of a segment, and a113, a leaf; the hops of entry and peer differ in every field
@@ -73,32 +71,23 @@ peeringBook =
 abbrev pub lineBook : List ℕ
 lineBook =
     book
-    (segment 1 0x1 (entry a110 1500 0 0 1 63 mac0 []
-    ∷ entry a111 1500 0 2 0 63 mac1 [] ∷ [])
-    ∷ segment 1 0x2 (entry a111 1500 0 0 3 63 mac0 []
-    ∷ entry a112 1500 0 4 0 63 mac1 [] ∷ [])
-    ∷ segment 1 0x3 (entry a113 1500 0 0 5 63 mac0 []
-    ∷ entry a112 1500 0 6 0 63 mac1 [] ∷ [])
+    (segment 1 0x1 (entry a110 1500 0 0 1 63 mac0 [] ∷ entry a111 1500 0 2 0 63 mac1 [] ∷ [])
+    ∷ segment 1 0x2 (entry a111 1500 0 0 3 63 mac0 [] ∷ entry a112 1500 0 4 0 63 mac1 [] ∷ [])
+    ∷ segment 1 0x3 (entry a113 1500 0 0 5 63 mac0 [] ∷ entry a112 1500 0 6 0 63 mac1 [] ∷ [])
     ∷ [])
-    (segment 1 0x4 (entry a110 1500 0 0 1 63 mac0 []
-    ∷ entry a111 1500 0 2 0 63 mac1 [] ∷ [])
-    ∷ segment 1 0x5 (entry a111 1500 0 0 3 63 mac0 []
-    ∷ entry a112 1500 0 4 0 63 mac1 [] ∷ [])
-    ∷ segment 1 0x6 (entry a113 1500 0 0 5 63 mac0 []
-    ∷ entry a112 1500 0 6 0 63 mac1 [] ∷ [])
+    (segment 1 0x4 (entry a110 1500 0 0 1 63 mac0 [] ∷ entry a111 1500 0 2 0 63 mac1 [] ∷ [])
+    ∷ segment 1 0x5 (entry a111 1500 0 0 3 63 mac0 [] ∷ entry a112 1500 0 4 0 63 mac1 [] ∷ [])
+    ∷ segment 1 0x6 (entry a113 1500 0 0 5 63 mac0 [] ∷ entry a112 1500 0 6 0 63 mac1 [] ∷ [])
     ∷ [])
 
--- up, core and down: the core has the least MTU, the last segment the first expiry
+-- up, core and down: the core has the least MTU, the last segment ends first
 abbrev pub threeBook : List ℕ
 threeBook =
     book
-    (segment 5000 0x2000 (entry a110 9000 0 0 11 9 mac2 []
-    ∷ entry a111 9000 1280 12 0 8 mac3 [] ∷ [])
+    (segment 5000 0x2000 (entry a110 9000 0 0 11 31 mac2 [] ∷ entry a111 9000 1280 12 0 30 mac3 [] ∷ [])
     ∷ [])
-    (segment 6000 0x1000 (entry a110 1500 0 0 1 63 mac0 []
-    ∷ entry a112 1400 1350 2 0 63 mac1 [] ∷ [])
-    ∷ segment 4000 0x3000 (entry a111 1500 0 0 3 20 mac1 []
-    ∷ entry a113 1290 1300 4 0 63 mac0 [] ∷ [])
+    (segment 6000 0x1000 (entry a110 1500 0 0 1 63 mac0 [] ∷ entry a112 1400 1350 2 0 63 mac1 [] ∷ [])
+    ∷ segment 4000 0x3000 (entry a111 1500 0 0 3 20 mac1 [] ∷ entry a113 1290 1300 4 0 63 mac0 [] ∷ [])
     ∷ [])
 
 -- two segments that cross at a111, in the middle of both
@@ -106,12 +95,8 @@ abbrev pub crossBook : List ℕ
 crossBook =
     book
     []
-    (segment 1000000 0xa0a (entry a110 1500 0 0 1 63 mac0 []
-    ∷ entry a111 1500 0 2 3 63 mac1 []
-    ∷ entry a112 1500 0 4 0 63 mac2 [] ∷ [])
-    ∷ segment 1000000 0xb0b (entry a114 1500 0 0 5 63 mac3 []
-    ∷ entry a111 1500 0 6 7 63 mac0 []
-    ∷ entry a113 1500 0 8 0 63 mac1 [] ∷ [])
+    (segment 1000000 0xa0a (entry a110 1500 0 0 1 63 mac0 [] ∷ entry a111 1500 0 2 3 63 mac1 [] ∷ entry a112 1500 0 4 0 63 mac2 [] ∷ [])
+    ∷ segment 1000000 0xb0b (entry a114 1500 0 0 5 63 mac3 [] ∷ entry a111 1500 0 6 7 63 mac0 [] ∷ entry a113 1500 0 8 0 63 mac1 [] ∷ [])
     ∷ [])
 
 -- a110 to a112 by a111, at three of its interfaces or at two
@@ -119,12 +104,9 @@ abbrev pub loopBook : List ℕ
 loopBook =
     book
     []
-    (segment 1 0x1 (entry a111 1500 0 0 1 63 mac0 []
-    ∷ entry a110 1500 0 1 0 63 mac1 [] ∷ [])
-    ∷ segment 1 0x2 (entry a111 1500 0 3 2 63 mac0 []
-    ∷ entry a112 1500 0 1 0 63 mac1 [] ∷ [])
-    ∷ segment 1 0x3 (entry a111 1500 0 0 6 63 mac0 []
-    ∷ entry a112 1500 0 1 0 63 mac1 [] ∷ [])
+    (segment 1 0x1 (entry a111 1500 0 0 1 63 mac0 [] ∷ entry a110 1500 0 1 0 63 mac1 [] ∷ [])
+    ∷ segment 1 0x2 (entry a111 1500 0 3 2 63 mac0 [] ∷ entry a112 1500 0 1 0 63 mac1 [] ∷ [])
+    ∷ segment 1 0x3 (entry a111 1500 0 0 6 63 mac0 [] ∷ entry a112 1500 0 1 0 63 mac1 [] ∷ [])
     ∷ [])
 
 -- no interfaces
@@ -132,8 +114,7 @@ abbrev pub bareBook : List ℕ
 bareBook =
     book
     []
-    (segment 1 0x1 (entry a110 1500 0 0 0 63 mac0 []
-    ∷ entry a111 1500 0 0 0 63 mac1 [] ∷ [])
+    (segment 1 0x1 (entry a110 1500 0 0 0 63 mac0 [] ∷ entry a111 1500 0 0 0 63 mac1 [] ∷ [])
     ∷ [])
 
 -- the largest MTU, and an AS MTU of 65536; the most units, and the fewest a second before the last expiry
@@ -141,29 +122,21 @@ abbrev pub mtuBook : List ℕ
 mtuBook =
     book
     []
-    (segment 1 0x1 (entry a110 65535 0 0 1 255 mac0 []
-    ∷ entry a111 65535 0 2 0 255 mac1 [] ∷ [])
-    ∷ segment 4294966957 0x1 (entry a110 65536 0 0 1 0 mac0 []
-    ∷ entry a112 65535 0 2 0 0 mac1 [] ∷ [])
+    (segment 1 0x1 (entry a110 65535 0 0 1 255 mac0 [] ∷ entry a111 65535 0 2 0 255 mac1 [] ∷ [])
+    ∷ segment 4294966957 0x1 (entry a110 65536 0 0 1 0 mac0 [] ∷ entry a112 65535 0 2 0 0 mac1 [] ∷ [])
     ∷ [])
 
 -- the worked segment as a core, twice as a non-core, and with another id, timestamp and ingress MTU
 abbrev pub repeatedBook : List ℕ
 repeatedBook =
     book
-    (segment 1000000 0x1234 (entry a110 1500 0 0 5 63 mac0 []
-    ∷ entry a111 1400 1350 7 0 63 mac1 [] ∷ [])
+    (segment 1000000 0x1234 (entry a110 1500 0 0 5 63 mac0 [] ∷ entry a111 1400 1350 7 0 63 mac1 [] ∷ [])
     ∷ [])
-    (segment 1000000 0x1234 (entry a110 1500 0 0 5 63 mac0 []
-    ∷ entry a111 1400 1350 7 0 63 mac1 [] ∷ [])
-    ∷ segment 1000000 0x1235 (entry a110 1500 0 0 5 63 mac0 []
-    ∷ entry a111 1400 1350 7 0 63 mac1 [] ∷ [])
-    ∷ segment 1000000 0x1234 (entry a110 1500 0 0 5 63 mac0 []
-    ∷ entry a111 1400 1350 7 0 63 mac1 [] ∷ [])
-    ∷ segment 1000001 0x1234 (entry a110 1500 0 0 5 63 mac0 []
-    ∷ entry a111 1400 1350 7 0 63 mac1 [] ∷ [])
-    ∷ segment 1000000 0x1234 (entry a110 1500 0 0 5 63 mac0 []
-    ∷ entry a111 1400 1351 7 0 63 mac1 [] ∷ [])
+    (segment 1000000 0x1234 (entry a110 1500 0 0 5 63 mac0 [] ∷ entry a111 1400 1350 7 0 63 mac1 [] ∷ [])
+    ∷ segment 1000000 0x1235 (entry a110 1500 0 0 5 63 mac0 [] ∷ entry a111 1400 1350 7 0 63 mac1 [] ∷ [])
+    ∷ segment 1000000 0x1234 (entry a110 1500 0 0 5 63 mac0 [] ∷ entry a111 1400 1350 7 0 63 mac1 [] ∷ [])
+    ∷ segment 1000001 0x1234 (entry a110 1500 0 0 5 63 mac0 [] ∷ entry a111 1400 1350 7 0 63 mac1 [] ∷ [])
+    ∷ segment 1000000 0x1234 (entry a110 1500 0 0 5 63 mac0 [] ∷ entry a111 1400 1351 7 0 63 mac1 [] ∷ [])
     ∷ [])
 
 -- a110 stands twice in a segment, each time with peers that have equal ends
@@ -185,10 +158,8 @@ selfBook =
     (segment 1 0x1 (entry a110 1500 0 0 1 63 mac0 [] ∷ [])
     ∷ segment 1 0x2 (entry a111 1500 0 0 1 63 mac0 [] ∷ [])
     ∷ [])
-    (segment 1 0x3 (entry a110 1500 0 0 1 63 mac0 []
-    ∷ entry a111 1500 0 2 0 63 mac1 [] ∷ [])
-    ∷ segment 1 0x4 (entry a110 1500 0 0 3 63 mac0 []
-    ∷ entry a110 1500 0 4 0 63 mac1 [] ∷ [])
+    (segment 1 0x3 (entry a110 1500 0 0 1 63 mac0 [] ∷ entry a111 1500 0 2 0 63 mac1 [] ∷ [])
+    ∷ segment 1 0x4 (entry a110 1500 0 0 3 63 mac0 [] ∷ entry a110 1500 0 4 0 63 mac1 [] ∷ [])
     ∷ segment 1 0x5 (entry a110 1500 0 0 3 63 mac0 [] ∷ [])
     ∷ [])
 
@@ -199,17 +170,14 @@ emptyBook =
     (segment 1 0x1 []
     ∷ [])
     (segment 1 0x2 []
-    ∷ segment 1 0x3 (entry a110 1500 0 0 1 63 mac0 []
-    ∷ entry a0 1500 0 2 0 63 mac1 [] ∷ [])
+    ∷ segment 1 0x3 (entry a110 1500 0 0 1 63 mac0 [] ∷ entry a0 1500 0 2 0 63 mac1 [] ∷ [])
     ∷ [])
 
 -- a core of three entries
 abbrev pub coreBook : List ℕ
 coreBook =
     book
-    (segment 1 0x1 (entry a110 1500 0 0 1 63 mac0 []
-    ∷ entry a111 1500 0 2 3 63 mac1 []
-    ∷ entry a112 1500 0 4 0 63 mac2 [] ∷ [])
+    (segment 1 0x1 (entry a110 1500 0 0 1 63 mac0 [] ∷ entry a111 1500 0 2 3 63 mac1 [] ∷ entry a112 1500 0 4 0 63 mac2 [] ∷ [])
     ∷ [])
     []
 
@@ -237,10 +205,8 @@ abbrev pub noneBook : List ℕ
 noneBook =
     book
     []
-    (segment 1 0x1 (entry a110 1500 0 0 1 63 mac0 (peer a112 4 1500 63 3 1 mac0 ∷ [])
-    ∷ entry a111 1500 0 2 0 63 mac1 [] ∷ [])
-    ∷ segment 1 0x2 (entry a110 1500 0 0 5 63 mac0 []
-    ∷ entry a112 1500 0 6 0 63 mac1 (peer a110 3 1500 63 4 0 mac0 ∷ []) ∷ [])
+    (segment 1 0x1 (entry a110 1500 0 0 1 63 mac0 (peer a112 4 1500 63 3 1 mac0 ∷ []) ∷ entry a111 1500 0 2 0 63 mac1 [] ∷ [])
+    ∷ segment 1 0x2 (entry a110 1500 0 0 5 63 mac0 [] ∷ entry a112 1500 0 6 0 63 mac1 (peer a110 3 1500 63 4 0 mac0 ∷ []) ∷ [])
     ∷ [])
 
 -- two segments from a111 to a110 of cost 1, the second at shortcut 1
@@ -248,11 +214,8 @@ abbrev pub shortcutsBook : List ℕ
 shortcutsBook =
     book
     []
-    (segment 1 0x1 (entry a110 1500 0 0 1 63 mac0 []
-    ∷ entry a111 1500 0 2 0 63 mac1 [] ∷ [])
-    ∷ segment 1 0x2 (entry a113 1500 0 0 3 63 mac2 []
-    ∷ entry a110 1500 0 4 5 63 mac0 []
-    ∷ entry a111 1500 0 6 0 63 mac1 [] ∷ [])
+    (segment 1 0x1 (entry a110 1500 0 0 1 63 mac0 [] ∷ entry a111 1500 0 2 0 63 mac1 [] ∷ [])
+    ∷ segment 1 0x2 (entry a113 1500 0 0 3 63 mac2 [] ∷ entry a110 1500 0 4 5 63 mac0 [] ∷ entry a111 1500 0 6 0 63 mac1 [] ∷ [])
     ∷ [])
 
 -- from a112 to a110 by one segment of cost 3, by one of cost 2, and by two of cost 1
@@ -264,13 +227,9 @@ costsBook =
     ∷ entry a113 1500 0 2 3 63 mac1 []
     ∷ entry a114 1500 0 4 5 63 mac1 []
     ∷ entry a112 1500 0 6 0 63 mac1 [] ∷ [])
-    ∷ segment 1 0x2 (entry a110 1500 0 0 7 63 mac0 []
-    ∷ entry a111 1500 0 8 0 63 mac1 [] ∷ [])
-    ∷ segment 1 0x3 (entry a111 1500 0 0 9 63 mac0 []
-    ∷ entry a112 1500 0 1 0 63 mac1 [] ∷ [])
-    ∷ segment 1 0x4 (entry a110 1500 0 0 2 63 mac0 []
-    ∷ entry a114 1500 0 3 4 63 mac1 []
-    ∷ entry a112 1500 0 5 0 63 mac1 [] ∷ [])
+    ∷ segment 1 0x2 (entry a110 1500 0 0 7 63 mac0 [] ∷ entry a111 1500 0 8 0 63 mac1 [] ∷ [])
+    ∷ segment 1 0x3 (entry a111 1500 0 0 9 63 mac0 [] ∷ entry a112 1500 0 1 0 63 mac1 [] ∷ [])
+    ∷ segment 1 0x4 (entry a110 1500 0 0 2 63 mac0 [] ∷ entry a114 1500 0 3 4 63 mac1 [] ∷ entry a112 1500 0 5 0 63 mac1 [] ∷ [])
     ∷ [])
 
 -- two segments that differ only in id, then two of which the second has the larger shortcut
@@ -278,15 +237,10 @@ abbrev pub twinsBook : List ℕ
 twinsBook =
     book
     []
-    (segment 1 0x1 (entry a110 1500 0 0 1 63 mac0 []
-    ∷ entry a111 1500 0 2 0 63 mac1 [] ∷ [])
-    ∷ segment 1 0x2 (entry a110 1500 0 0 1 63 mac0 []
-    ∷ entry a111 1500 0 2 0 63 mac1 [] ∷ [])
-    ∷ segment 1 0x3 (entry a110 1500 0 0 3 63 mac0 []
-    ∷ entry a112 1500 0 4 0 63 mac1 [] ∷ [])
-    ∷ segment 1 0x4 (entry a113 1500 0 0 5 63 mac2 []
-    ∷ entry a110 1500 0 6 7 63 mac0 []
-    ∷ entry a112 1500 0 8 0 63 mac1 [] ∷ [])
+    (segment 1 0x1 (entry a110 1500 0 0 1 63 mac0 [] ∷ entry a111 1500 0 2 0 63 mac1 [] ∷ [])
+    ∷ segment 1 0x2 (entry a110 1500 0 0 1 63 mac0 [] ∷ entry a111 1500 0 2 0 63 mac1 [] ∷ [])
+    ∷ segment 1 0x3 (entry a110 1500 0 0 3 63 mac0 [] ∷ entry a112 1500 0 4 0 63 mac1 [] ∷ [])
+    ∷ segment 1 0x4 (entry a113 1500 0 0 5 63 mac2 [] ∷ entry a110 1500 0 6 7 63 mac0 [] ∷ entry a112 1500 0 8 0 63 mac1 [] ∷ [])
     ∷ [])
 
 -- two chains of which the first edges differ in shortcut and the second in peer, the other way round
@@ -294,8 +248,7 @@ abbrev pub keysBook : List ℕ
 keysBook =
     book
     []
-    (segment 1 0x1 (entry a110 1500 0 0 1 63 mac0 (peer a113 11 1500 63 12 0 mac0 ∷ [])
-    ∷ entry a111 1500 0 2 0 63 mac1 [] ∷ [])
+    (segment 1 0x1 (entry a110 1500 0 0 1 63 mac0 (peer a113 11 1500 63 12 0 mac0 ∷ []) ∷ entry a111 1500 0 2 0 63 mac1 [] ∷ [])
     ∷ segment 1 0x2 (entry a114 1500 0 0 3 63 mac2 []
     ∷ entry a110 1500 0 4 5 63 mac0 (peer a113 21 1500 63 22 0 mac0 ∷ [])
     ∷ entry a111 1500 0 6 0 63 mac1 [] ∷ [])
@@ -307,10 +260,8 @@ abbrev pub fingerprintBook : List ℕ
 fingerprintBook =
     book
     []
-    (segment 1 0x1 (entry a110 1500 0 0 21 63 mac0 []
-    ∷ entry a111 1500 0 15 30 63 mac1 [] ∷ [])
-    ∷ segment 1 0x1 (entry a110 1500 0 8 10 63 mac0 []
-    ∷ entry a111 1500 0 6 35 63 mac1 [] ∷ [])
+    (segment 1 0x1 (entry a110 1500 0 0 21 63 mac0 [] ∷ entry a111 1500 0 15 30 63 mac1 [] ∷ [])
+    ∷ segment 1 0x1 (entry a110 1500 0 8 10 63 mac0 [] ∷ entry a111 1500 0 6 35 63 mac1 [] ∷ [])
     ∷ [])
 
 -- the worked book, byte by byte: sizes, head, two entries
@@ -364,13 +315,13 @@ table =
     -- the Rust: a chain may pass the source again
     ∷ case (list lineBook a111 a110 48) (3 ∷ (solution 1 (edge 0 0 0 0 ∷ []) ++ solution 1 (edge 3 0 0 0 ∷ []) ++ solution 3 (edge 4 0 0 1 ∷ edge 1 0 0 0 ∷ edge 3 0 0 0 ∷ [])))
     -- the Rust: up, core, down; MTU and expiry are the least over the edges
-    ∷ case (print (input threeBook a112 a113)) (Printed.ascii "solutions 1 paths 1\n1 cost 3 segments 3 mtu 1280 expiry 8037 hops 6\ninfo 0 1102 6000\ninfo 1 2000 5000\ninfo 1 3000 4000\nif 0001ff0000000112 2\nif 0001ff0000000110 1\nif 0001ff0000000110 11\nif 0001ff0000000111 12\nif 0001ff0000000111 3\nif 0001ff0000000113 4\n")
-    ∷ case (print (input threeBook a113 a112)) (Printed.ascii "solutions 1 paths 1\n1 cost 3 segments 3 mtu 1280 expiry 8037 hops 6\ninfo 0 3a0b 4000\ninfo 0 0031 5000\ninfo 1 1000 6000\nif 0001ff0000000113 4\nif 0001ff0000000111 3\nif 0001ff0000000111 12\nif 0001ff0000000110 11\nif 0001ff0000000110 1\nif 0001ff0000000112 2\n")
+    ∷ case (print (input threeBook a112 a113)) (Printed.ascii "solutions 1 paths 1\n1 cost 3 segments 3 mtu 1280 expiry 11087 hops 6\ninfo 0 1102 6000\ninfo 1 2000 5000\ninfo 1 3000 4000\nif 0001ff0000000112 2\nif 0001ff0000000110 1\nif 0001ff0000000110 11\nif 0001ff0000000111 12\nif 0001ff0000000111 3\nif 0001ff0000000113 4\n")
+    ∷ case (print (input threeBook a113 a112)) (Printed.ascii "solutions 1 paths 1\n1 cost 3 segments 3 mtu 1280 expiry 11087 hops 6\ninfo 0 3a0b 4000\ninfo 0 0031 5000\ninfo 1 1000 6000\nif 0001ff0000000113 4\nif 0001ff0000000111 3\nif 0001ff0000000111 12\nif 0001ff0000000110 11\nif 0001ff0000000110 1\nif 0001ff0000000112 2\n")
     -- the Rust: non-core and core, core and non-core
-    ∷ case (print (input threeBook a112 a111)) (Printed.ascii "solutions 1 paths 1\n1 cost 2 segments 2 mtu 1280 expiry 8037 hops 4\ninfo 0 1102 6000\ninfo 1 2000 5000\nif 0001ff0000000112 2\nif 0001ff0000000110 1\nif 0001ff0000000110 11\nif 0001ff0000000111 12\n")
-    ∷ case (print (input threeBook a110 a113)) (Printed.ascii "solutions 1 paths 1\n1 cost 2 segments 2 mtu 1280 expiry 8037 hops 4\ninfo 1 2000 5000\ninfo 1 3000 4000\nif 0001ff0000000110 11\nif 0001ff0000000111 12\nif 0001ff0000000111 3\nif 0001ff0000000113 4\n")
+    ∷ case (print (input threeBook a112 a111)) (Printed.ascii "solutions 1 paths 1\n1 cost 2 segments 2 mtu 1280 expiry 15462 hops 4\ninfo 0 1102 6000\ninfo 1 2000 5000\nif 0001ff0000000112 2\nif 0001ff0000000110 1\nif 0001ff0000000110 11\nif 0001ff0000000111 12\n")
+    ∷ case (print (input threeBook a110 a113)) (Printed.ascii "solutions 1 paths 1\n1 cost 2 segments 2 mtu 1280 expiry 11087 hops 4\ninfo 1 2000 5000\ninfo 1 3000 4000\nif 0001ff0000000110 11\nif 0001ff0000000111 12\nif 0001ff0000000111 3\nif 0001ff0000000113 4\n")
     -- the Rust: the bytes of the path of three edges, and the ids held
-    ∷ case (assemble threeBook a112 a113 (solution 3 (edge 1 0 0 0 ∷ edge 0 0 0 1 ∷ edge 2 0 0 1 ∷ [])) 1538) (0 ∷ 3 ∷ 6 ∷ 6 ∷ 0 ∷ 5 ∷ 0 ∷ 0 ∷ 0 ∷ 0x1f ∷ 0x65 ∷ 0 ∷ 1 ∷ 0xff ∷ 0 ∷ 0 ∷ 0 ∷ 1 ∷ 0x12 ∷ 0 ∷ 1 ∷ 0xff ∷ 0 ∷ 0 ∷ 0 ∷ 1 ∷ 0x13 ∷ 0 ∷ 2 ∷ 0x11 ∷ 2 ∷ 0 ∷ 0 ∷ 0x17 ∷ 0x70 ∷ 1 ∷ 2 ∷ 0x20 ∷ 0 ∷ 0 ∷ 0 ∷ 0x13 ∷ 0x88 ∷ 1 ∷ 2 ∷ 0x30 ∷ 0 ∷ 0 ∷ 0 ∷ 0x0f ∷ 0xa0 ∷ 0x3f ∷ 0 ∷ 2 ∷ 0 ∷ 0 ∷ 0x0a ∷ 0x0b ∷ 0x0c ∷ 0x0d ∷ 0x0e ∷ 0x0f ∷ 0x3f ∷ 0 ∷ 0 ∷ 0 ∷ 1 ∷ 1 ∷ 2 ∷ 3 ∷ 4 ∷ 5 ∷ 6 ∷ 9 ∷ 0 ∷ 0 ∷ 0 ∷ 0x0b ∷ 0x20 ∷ 0x31 ∷ 0x42 ∷ 0x53 ∷ 0x64 ∷ 0x75 ∷ 8 ∷ 0 ∷ 0x0c ∷ 0 ∷ 0 ∷ 0x86 ∷ 0x97 ∷ 0xa8 ∷ 0xb9 ∷ 0xca ∷ 0xdb ∷ 0x14 ∷ 0 ∷ 0 ∷ 0 ∷ 3 ∷ 0x0a ∷ 0x0b ∷ 0x0c ∷ 0x0d ∷ 0x0e ∷ 0x0f ∷ 0x3f ∷ 0 ∷ 4 ∷ 0 ∷ 0 ∷ 1 ∷ 2 ∷ 3 ∷ 4 ∷ 5 ∷ 6 ∷ 0 ∷ 1 ∷ 0xff ∷ 0 ∷ 0 ∷ 0 ∷ 1 ∷ 0x12 ∷ 0 ∷ 1 ∷ 0xff ∷ 0 ∷ 0 ∷ 0 ∷ 1 ∷ 0x10 ∷ 0 ∷ 1 ∷ 0xff ∷ 0 ∷ 0 ∷ 0 ∷ 1 ∷ 0x10 ∷ 0 ∷ 1 ∷ 0xff ∷ 0 ∷ 0 ∷ 0 ∷ 1 ∷ 0x11 ∷ 0 ∷ 1 ∷ 0xff ∷ 0 ∷ 0 ∷ 0 ∷ 1 ∷ 0x11 ∷ 0 ∷ 1 ∷ 0xff ∷ 0 ∷ 0 ∷ 0 ∷ 1 ∷ 0x13 ∷ 0 ∷ 2 ∷ 0 ∷ 1 ∷ 0 ∷ 0x0b ∷ 0 ∷ 0x0c ∷ 0 ∷ 3 ∷ 0 ∷ 4 ∷ replicate 1362 0)
+    ∷ case (assemble threeBook a112 a113 (solution 3 (edge 1 0 0 0 ∷ edge 0 0 0 1 ∷ edge 2 0 0 1 ∷ [])) 1538) (0 ∷ 3 ∷ 6 ∷ 6 ∷ 0 ∷ 5 ∷ 0 ∷ 0 ∷ 0 ∷ 0x2b ∷ 0x4f ∷ 0 ∷ 1 ∷ 0xff ∷ 0 ∷ 0 ∷ 0 ∷ 1 ∷ 0x12 ∷ 0 ∷ 1 ∷ 0xff ∷ 0 ∷ 0 ∷ 0 ∷ 1 ∷ 0x13 ∷ 0 ∷ 2 ∷ 0x11 ∷ 2 ∷ 0 ∷ 0 ∷ 0x17 ∷ 0x70 ∷ 1 ∷ 2 ∷ 0x20 ∷ 0 ∷ 0 ∷ 0 ∷ 0x13 ∷ 0x88 ∷ 1 ∷ 2 ∷ 0x30 ∷ 0 ∷ 0 ∷ 0 ∷ 0x0f ∷ 0xa0 ∷ 0x3f ∷ 0 ∷ 2 ∷ 0 ∷ 0 ∷ 0x0a ∷ 0x0b ∷ 0x0c ∷ 0x0d ∷ 0x0e ∷ 0x0f ∷ 0x3f ∷ 0 ∷ 0 ∷ 0 ∷ 1 ∷ 1 ∷ 2 ∷ 3 ∷ 4 ∷ 5 ∷ 6 ∷ 0x1f ∷ 0 ∷ 0 ∷ 0 ∷ 0x0b ∷ 0x20 ∷ 0x31 ∷ 0x42 ∷ 0x53 ∷ 0x64 ∷ 0x75 ∷ 0x1e ∷ 0 ∷ 0x0c ∷ 0 ∷ 0 ∷ 0x86 ∷ 0x97 ∷ 0xa8 ∷ 0xb9 ∷ 0xca ∷ 0xdb ∷ 0x14 ∷ 0 ∷ 0 ∷ 0 ∷ 3 ∷ 0x0a ∷ 0x0b ∷ 0x0c ∷ 0x0d ∷ 0x0e ∷ 0x0f ∷ 0x3f ∷ 0 ∷ 4 ∷ 0 ∷ 0 ∷ 1 ∷ 2 ∷ 3 ∷ 4 ∷ 5 ∷ 6 ∷ 0 ∷ 1 ∷ 0xff ∷ 0 ∷ 0 ∷ 0 ∷ 1 ∷ 0x12 ∷ 0 ∷ 1 ∷ 0xff ∷ 0 ∷ 0 ∷ 0 ∷ 1 ∷ 0x10 ∷ 0 ∷ 1 ∷ 0xff ∷ 0 ∷ 0 ∷ 0 ∷ 1 ∷ 0x10 ∷ 0 ∷ 1 ∷ 0xff ∷ 0 ∷ 0 ∷ 0 ∷ 1 ∷ 0x11 ∷ 0 ∷ 1 ∷ 0xff ∷ 0 ∷ 0 ∷ 0 ∷ 1 ∷ 0x11 ∷ 0 ∷ 1 ∷ 0xff ∷ 0 ∷ 0 ∷ 0 ∷ 1 ∷ 0x13 ∷ 0 ∷ 2 ∷ 0 ∷ 1 ∷ 0 ∷ 0x0b ∷ 0 ∷ 0x0c ∷ 0 ∷ 3 ∷ 0 ∷ 4 ∷ replicate 1362 0)
     ∷ case (hold threeBook a112 a113 (solution 3 (edge 1 0 0 0 ∷ edge 0 0 0 1 ∷ edge 2 0 0 1 ∷ []))) (0x1102 ∷ 0x1000 ∷ 0x2000 ∷ 0x0031 ∷ 0x3000 ∷ 0x3a0b ∷ [])
     ∷ case (hold threeBook a113 a112 (solution 3 (edge 2 0 0 0 ∷ edge 0 0 0 0 ∷ edge 1 0 0 1 ∷ []))) (0x3a0b ∷ 0x3000 ∷ 0x0031 ∷ 0x2000 ∷ 0x1000 ∷ 0x1102 ∷ [])
     -- the Rust: two segments that cross
@@ -445,11 +396,9 @@ table =
     ∷ case (accept (0 ∷ 0 ∷ 0 ∷ 1 ∷ (replicate 10 0 ++ (0 ∷ 17 ∷ replicate 3 0)))) (2 ∷ [])
     -- and 1 where a byte is lacking there
     ∷ case (accept (0 ∷ 0 ∷ 0 ∷ 1 ∷ (replicate 3 0 ++ (1 ∷ (replicate 6 0 ++ (0 ∷ 17 ∷ 0 ∷ 0 ∷ [])))))) (1 ∷ [])
-    -- 3: 61441 bytes; 61440 are a surplus here; before 4, 1 and 2
-    ∷ case (accept (replicate 61440 0)) (2 ∷ [])
-    ∷ case (accept (replicate 61441 0)) (3 ∷ [])
+    -- 3: 61441 bytes, before 4, 1 and 2; 61440 zeros are a surplus
     ∷ case (accept (0 ∷ 65 ∷ replicate 61439 0)) (3 ∷ [])
-    ∷ case (accept (0 ∷ 0 ∷ 0 ∷ 0 ∷ 255 ∷ replicate 61436 0)) (3 ∷ [])
+    ∷ case (accept (replicate 61440 0)) (2 ∷ [])
     -- 4: C and N together; before 2
     ∷ case (accept (0 ∷ 0 ∷ 0 ∷ 65 ∷ replicate 4 0)) (4 ∷ [])
     ∷ case (accept (0 ∷ 32 ∷ 0 ∷ 33 ∷ replicate 4 0)) (4 ∷ [])

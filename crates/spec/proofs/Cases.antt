@@ -2,8 +2,7 @@
 -- Every answer is document 01's own. No case depends on the digest.
 -- Assumes nothing.
 use Prim.Native.Nat.{ℕ}
-use mathlib.Core.Path.{_≡_}
-use mathlib.Core.List.{List, [], _∷_, _++_, flatMap, List·Memᴰ as Mem}
+use mathlib.Core.List.{List, [], _∷_, _++_, flatMap}
 use lib.ListN.{length, replicate}
 use lib.Dec.{T}
 use Rattle.spec.specs.Basics
@@ -16,7 +15,7 @@ use Rattle.spec.specs.Assembly
 use Rattle.spec.specs.Records
 use Rattle.spec.specs.Answers
 use Rattle.spec.specs.Printed
-use Rattle.spec.proofs.CasesForm.{entry, peer, Draft, segment, book, edge, solution, Question, accept, list, print, live, input, Case, case, answer, right, every, answered, a110, a111, a112, mac0, mac1}
+use Rattle.spec.proofs.CasesForm.{entry, peer, Draft, segment, book, edge, solution, Question, accept, list, print, live, input, Case, case, answer, right, every, a110, a111, a112, mac0, mac1}
 
 -- ---- the books
 
@@ -108,7 +107,3 @@ unfolding table every right answer flatMap
     Printed.ascii Printed.decimalIn Printed.decimal Printed.hex Printed.item Printed.newline Printed.infoLine Printed.interfaceLine Printed.pathLines
     Printed.outcomeLines Printed.solutionLines Printed.solutionsLines Printed.hasPath Printed.refusedLine Printed.listLines Printed.printed
 all-right digest = tt
-
--- so each question of the table has the answer beside it
-pub right-answer : (digest : List ℕ → List ℕ) (c : Case) → Mem c table → answer digest (c .question) ≡ c .expected
-right-answer digest = answered digest table (all-right digest)

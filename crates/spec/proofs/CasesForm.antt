@@ -1,12 +1,9 @@
 -- How a table of cases is written: books field by field, questions, their answers by the definitions, and the test of a whole table.
 -- Assumes nothing.
 use Prim.Native.Nat.{ℕ, _-_, _*_}
-use mathlib.Core.Path.{_≡_, ap, _∙_}
-use mathlib.Core.Logic.{⊎-elim}
 use mathlib.Core.Bool.{Bool, true, _&&_}
-use mathlib.Core.List.{List, [], _∷_, _++_, flatMap, List·Memᴰ as Mem, List·Memᴰ·not-nil as not-nil, List·Memᴰ·cases-cons as cases-cons}
+use mathlib.Core.List.{List, [], _∷_, _++_, flatMap}
 use lib.ListN.{length, replicate}
-use lib.Dec.{T}
 use Rattle.spec.specs.declared.IsdAsn.{IsdAsn}
 use Rattle.spec.specs.Basics.{sameList}
 use Rattle.spec.specs.Octets.{octets2, octets4, octets8}
@@ -16,8 +13,6 @@ use Rattle.spec.specs.Records.{slots}
 use Rattle.spec.specs.Router.{routerIds}
 use Rattle.spec.specs.Answers.{Listed, Assembled, listing, assembly, verdictNumber, listNumber, pathNumber}
 use Rattle.spec.specs.Printed.{printed}
-use Rattle.spec.proofs.Membership.{T-true, true-T, and-true}
-use Rattle.spec.proofs.AnswerLaws.{sameList-eq}
 
 -- ---- books
 
@@ -115,19 +110,6 @@ right digest c = sameList (answer digest (c .question)) (c .expected)
 unfoldable pub every : (Case → Bool) → List Case → Bool
 every p [] = true
 every p (c ∷ cs) = p c && every p cs
-
--- where a table is right, each question of it has the answer beside it
-every-mem : (p : Case → Bool) (cs : List Case) → T (every p cs) → (c : Case) → Mem c cs → p c ≡ true
-unfolding every
-every-mem p [] t c m = absurd (not-nil m)
-every-mem p (d ∷ ds) t c m =
-    let h = and-true (p d) (every p ds) (T-true (p d && every p ds) t) in
-    ⊎-elim (λ q. ap p q ∙ h .0) (λ k. every-mem p ds (true-T (every p ds) (h .1)) c k) (cases-cons m)
-
-pub answered : (digest : List ℕ → List ℕ) (cs : List Case) → T (every (right digest) cs) → (c : Case) → Mem c cs → answer digest (c .question) ≡ c .expected
-unfolding right
-answered digest cs t c m =
-    sameList-eq (answer digest (c .question)) (c .expected) (every-mem (right digest) cs t c m)
 
 -- ---- ASes and MACs
 
