@@ -272,15 +272,45 @@ workedBytes =
     ∷ 0 ∷ 1 ∷ 0xff ∷ 0 ∷ 0 ∷ 0 ∷ 1 ∷ 0x10 ∷ 0 ∷ 0 ∷ 5 ∷ 0xdc ∷ 0 ∷ 0 ∷ 0 ∷ 0 ∷ 0 ∷ 5 ∷ 0x3f ∷ 1 ∷ 2 ∷ 3 ∷ 4 ∷ 5 ∷ 6 ∷ 0
     ∷ 0 ∷ 1 ∷ 0xff ∷ 0 ∷ 0 ∷ 0 ∷ 1 ∷ 0x11 ∷ 0 ∷ 0 ∷ 5 ∷ 0x78 ∷ 5 ∷ 0x46 ∷ 0 ∷ 7 ∷ 0 ∷ 0 ∷ 0x3f ∷ 0x0a ∷ 0x0b ∷ 0x0c ∷ 0x0d ∷ 0x0e ∷ 0x0f ∷ 0 ∷ []
 
+-- a book with these sizes and heads, and what follows the heads; each number below 256
+abbrev pub sized : ℕ → ℕ → ℕ → List (List ℕ) → List ℕ → List ℕ
+sized cores others total heads bodies = 0 ∷ cores ∷ 0 ∷ others ∷ 0 ∷ 0 ∷ 0 ∷ total ∷ (flatMap (λ h. h) heads ++ bodies)
+
+-- a head: entry count and body length; the rest is zero
+abbrev pub says : ℕ → ℕ → List ℕ
+says entries bytes = replicate 7 0 ++ (entries ∷ 0 ∷ bytes ∷ [])
+
+-- an entry of zeros but for its peer count
+abbrev pub blank : ℕ → List ℕ
+blank peers = replicate 25 0 ++ (peers ∷ [])
+
 -- ---- the tables
 
 -- where the fingerprint's input orders as its digest does, or does not matter: the digest hands its input back
 pub table : List Case
 table =
-    -- document 01: the worked list as bytes, its record, and its path
+    -- document 01: the worked list as bytes, its record, and its path: the number, then counts, MTU, expiry; first and last AS; infos; hops; interface ASes; ids
     case (list workedBytes a111 a110 20) (1 ∷ 0 ∷ 1 ∷ 1 ∷ replicate 17 0)
-    ∷ case (assemble workedBytes a111 a110 (0 ∷ 1 ∷ 1 ∷ replicate 13 0) 1538) (0 ∷ 1 ∷ 2 ∷ 2 ∷ 0 ∷ 5 ∷ 0x46 ∷ 0 ∷ 0x0f ∷ 0x96 ∷ 0xa0 ∷ 0 ∷ 1 ∷ 0xff ∷ 0 ∷ 0 ∷ 0 ∷ 1 ∷ 0x11 ∷ 0 ∷ 1 ∷ 0xff ∷ 0 ∷ 0 ∷ 0 ∷ 1 ∷ 0x10 ∷ 0 ∷ 2 ∷ 0x13 ∷ 0x36 ∷ 0 ∷ 0x0f ∷ 0x42 ∷ 0x40 ∷ 0x3f ∷ 0 ∷ 7 ∷ 0 ∷ 0 ∷ 0x0a ∷ 0x0b ∷ 0x0c ∷ 0x0d ∷ 0x0e ∷ 0x0f ∷ 0x3f ∷ 0 ∷ 0 ∷ 0 ∷ 5 ∷ 1 ∷ 2 ∷ 3 ∷ 4 ∷ 5 ∷ 6 ∷ 0 ∷ 1 ∷ 0xff ∷ 0 ∷ 0 ∷ 0 ∷ 1 ∷ 0x11 ∷ 0 ∷ 1 ∷ 0xff ∷ 0 ∷ 0 ∷ 0 ∷ 1 ∷ 0x10 ∷ 0 ∷ 7 ∷ 0 ∷ 5 ∷ replicate 1462 0)
-    ∷ case (assemble workedBytes a110 a111 (0 ∷ 1 ∷ 1 ∷ replicate 4 0 ++ (1 ∷ replicate 8 0)) 1540) (0 ∷ 1 ∷ 2 ∷ 2 ∷ 0 ∷ 5 ∷ 0x46 ∷ 0 ∷ 0x0f ∷ 0x96 ∷ 0xa0 ∷ 0 ∷ 1 ∷ 0xff ∷ 0 ∷ 0 ∷ 0 ∷ 1 ∷ 0x10 ∷ 0 ∷ 1 ∷ 0xff ∷ 0 ∷ 0 ∷ 0 ∷ 1 ∷ 0x11 ∷ 1 ∷ 2 ∷ 0x12 ∷ 0x34 ∷ 0 ∷ 0x0f ∷ 0x42 ∷ 0x40 ∷ 0x3f ∷ 0 ∷ 0 ∷ 0 ∷ 5 ∷ 1 ∷ 2 ∷ 3 ∷ 4 ∷ 5 ∷ 6 ∷ 0x3f ∷ 0 ∷ 7 ∷ 0 ∷ 0 ∷ 0x0a ∷ 0x0b ∷ 0x0c ∷ 0x0d ∷ 0x0e ∷ 0x0f ∷ 0 ∷ 1 ∷ 0xff ∷ 0 ∷ 0 ∷ 0 ∷ 1 ∷ 0x10 ∷ 0 ∷ 1 ∷ 0xff ∷ 0 ∷ 0 ∷ 0 ∷ 1 ∷ 0x11 ∷ 0 ∷ 5 ∷ 0 ∷ 7 ∷ replicate 1464 0)
+    ∷ case (assemble workedBytes a111 a110 (0 ∷ 1 ∷ 1 ∷ replicate 13 0) 1538) (0
+    ∷ 1 ∷ 2 ∷ 2 ∷ 0 ∷ 5 ∷ 0x46 ∷ 0 ∷ 0x0f ∷ 0x96 ∷ 0xa0
+    ∷ 0 ∷ 1 ∷ 0xff ∷ 0 ∷ 0 ∷ 0 ∷ 1 ∷ 0x11 ∷ 0 ∷ 1 ∷ 0xff ∷ 0 ∷ 0 ∷ 0 ∷ 1 ∷ 0x10
+    ∷ 0 ∷ 2 ∷ 0x13 ∷ 0x36 ∷ 0 ∷ 0x0f ∷ 0x42 ∷ 0x40
+    ∷ 0x3f ∷ 0 ∷ 7 ∷ 0 ∷ 0 ∷ 0x0a ∷ 0x0b ∷ 0x0c ∷ 0x0d ∷ 0x0e ∷ 0x0f
+    ∷ 0x3f ∷ 0 ∷ 0 ∷ 0 ∷ 5 ∷ 1 ∷ 2 ∷ 3 ∷ 4 ∷ 5 ∷ 6
+    ∷ 0 ∷ 1 ∷ 0xff ∷ 0 ∷ 0 ∷ 0 ∷ 1 ∷ 0x11
+    ∷ 0 ∷ 1 ∷ 0xff ∷ 0 ∷ 0 ∷ 0 ∷ 1 ∷ 0x10
+    ∷ 0 ∷ 7 ∷ 0 ∷ 5
+    ∷ replicate 1462 0)
+    ∷ case (assemble workedBytes a110 a111 (0 ∷ 1 ∷ 1 ∷ replicate 4 0 ++ (1 ∷ replicate 8 0)) 1540) (0
+    ∷ 1 ∷ 2 ∷ 2 ∷ 0 ∷ 5 ∷ 0x46 ∷ 0 ∷ 0x0f ∷ 0x96 ∷ 0xa0
+    ∷ 0 ∷ 1 ∷ 0xff ∷ 0 ∷ 0 ∷ 0 ∷ 1 ∷ 0x10 ∷ 0 ∷ 1 ∷ 0xff ∷ 0 ∷ 0 ∷ 0 ∷ 1 ∷ 0x11
+    ∷ 1 ∷ 2 ∷ 0x12 ∷ 0x34 ∷ 0 ∷ 0x0f ∷ 0x42 ∷ 0x40
+    ∷ 0x3f ∷ 0 ∷ 0 ∷ 0 ∷ 5 ∷ 1 ∷ 2 ∷ 3 ∷ 4 ∷ 5 ∷ 6
+    ∷ 0x3f ∷ 0 ∷ 7 ∷ 0 ∷ 0 ∷ 0x0a ∷ 0x0b ∷ 0x0c ∷ 0x0d ∷ 0x0e ∷ 0x0f
+    ∷ 0 ∷ 1 ∷ 0xff ∷ 0 ∷ 0 ∷ 0 ∷ 1 ∷ 0x10
+    ∷ 0 ∷ 1 ∷ 0xff ∷ 0 ∷ 0 ∷ 0 ∷ 1 ∷ 0x11
+    ∷ 0 ∷ 5 ∷ 0 ∷ 7
+    ∷ replicate 1464 0)
     -- document 01: the same AS number in another ISD is another AS
     ∷ case (list workedBytes b110 a111 16) (0 ∷ replicate 16 0)
     ∷ case (list workedBytes a111 b110 16) (0 ∷ replicate 16 0)
@@ -292,7 +322,16 @@ table =
     ∷ case (print (input shortBook a110 a112)) (Printed.ascii "solutions 1 paths 1\n1 cost 2 segments 1 mtu 90 expiry 3025 hops 3\ninfo 1 1234 1000\nif 0001ff0000000110 9\nif 0001ff0000000110 1\nif 0001ff0000000111 2\nif 0001ff0000000111 3\nif 0001ff0000000112 4\n")
     ∷ case (list shortBook a110 a111 16) (1 ∷ solution 3 (edge 0 0 0 1 ∷ edge 0 1 0 0 ∷ []))
     -- the Rust: the bytes of the path to the shortcut
-    ∷ case (assemble shortBook a112 a111 (solution 1 (edge 0 1 0 0 ∷ [])) 1538) (0 ∷ 1 ∷ 2 ∷ 2 ∷ 0 ∷ 5 ∷ 0x14 ∷ 0 ∷ 0 ∷ 0x54 ∷ 0x53 ∷ 0 ∷ 1 ∷ 0xff ∷ 0 ∷ 0 ∷ 0 ∷ 1 ∷ 0x12 ∷ 0 ∷ 1 ∷ 0xff ∷ 0 ∷ 0 ∷ 0 ∷ 1 ∷ 0x11 ∷ 0 ∷ 2 ∷ 0x19 ∷ 0x3d ∷ 0 ∷ 0 ∷ 3 ∷ 0xe8 ∷ 0x3f ∷ 0 ∷ 4 ∷ 0 ∷ 0 ∷ 0x20 ∷ 0x31 ∷ 0x42 ∷ 0x53 ∷ 0x64 ∷ 0x75 ∷ 0x3c ∷ 0 ∷ 2 ∷ 0 ∷ 3 ∷ 0x0a ∷ 0x0b ∷ 0x0c ∷ 0x0d ∷ 0x0e ∷ 0x0f ∷ 0 ∷ 1 ∷ 0xff ∷ 0 ∷ 0 ∷ 0 ∷ 1 ∷ 0x12 ∷ 0 ∷ 1 ∷ 0xff ∷ 0 ∷ 0 ∷ 0 ∷ 1 ∷ 0x11 ∷ 0 ∷ 4 ∷ 0 ∷ 3 ∷ replicate 1462 0)
+    ∷ case (assemble shortBook a112 a111 (solution 1 (edge 0 1 0 0 ∷ [])) 1538) (0
+    ∷ 1 ∷ 2 ∷ 2 ∷ 0 ∷ 5 ∷ 0x14 ∷ 0 ∷ 0 ∷ 0x54 ∷ 0x53
+    ∷ 0 ∷ 1 ∷ 0xff ∷ 0 ∷ 0 ∷ 0 ∷ 1 ∷ 0x12 ∷ 0 ∷ 1 ∷ 0xff ∷ 0 ∷ 0 ∷ 0 ∷ 1 ∷ 0x11
+    ∷ 0 ∷ 2 ∷ 0x19 ∷ 0x3d ∷ 0 ∷ 0 ∷ 3 ∷ 0xe8
+    ∷ 0x3f ∷ 0 ∷ 4 ∷ 0 ∷ 0 ∷ 0x20 ∷ 0x31 ∷ 0x42 ∷ 0x53 ∷ 0x64 ∷ 0x75
+    ∷ 0x3c ∷ 0 ∷ 2 ∷ 0 ∷ 3 ∷ 0x0a ∷ 0x0b ∷ 0x0c ∷ 0x0d ∷ 0x0e ∷ 0x0f
+    ∷ 0 ∷ 1 ∷ 0xff ∷ 0 ∷ 0 ∷ 0 ∷ 1 ∷ 0x12
+    ∷ 0 ∷ 1 ∷ 0xff ∷ 0 ∷ 0 ∷ 0 ∷ 1 ∷ 0x11
+    ∷ 0 ∷ 4 ∷ 0 ∷ 3
+    ∷ replicate 1462 0)
     -- the ids held: the router rule by hand over the Rust's paths
     ∷ case (hold shortBook a112 a111 (solution 1 (edge 0 1 0 0 ∷ []))) (0x193d ∷ 0x1336 ∷ [])
     ∷ case (hold shortBook a111 a112 (solution 1 (edge 0 1 0 1 ∷ []))) (0x1336 ∷ 0x193d ∷ [])
@@ -303,7 +342,21 @@ table =
     ∷ case (print (input peeringBook a113 a112)) (Printed.ascii "solutions 2 paths 2\n1 cost 2 segments 2 mtu 1200 expiry 22087 hops 3\ninfo 2 8484 1500\ninfo 3 1a18 2000\nif 0001ff0000000113 21\nif 0001ff0000000111 22\nif 0001ff0000000111 13\nif 0001ff0000000112 4\n2 cost 2 segments 2 mtu 0 expiry 22762 hops 3\ninfo 2 8484 1500\ninfo 3 1a18 2000\nif 0001ff0000000113 6\nif 0001ff0000000113 31\nif 0001ff0000000111 32\nif 0001ff0000000111 13\nif 0001ff0000000112 4\n")
     ∷ case (list peeringBook a112 a113 32) (2 ∷ (solution 2 (edge 0 1 1 0 ∷ edge 1 1 1 1 ∷ []) ++ solution 2 (edge 0 1 2 0 ∷ edge 1 1 2 1 ∷ [])))
     -- the Rust: the bytes of the second path
-    ∷ case (assemble peeringBook a113 a112 (solution 2 (edge 1 1 2 0 ∷ edge 0 1 2 1 ∷ [])) 1538) (0 ∷ 2 ∷ 3 ∷ 5 ∷ 0 ∷ 0 ∷ 0 ∷ 0 ∷ 0 ∷ 0x58 ∷ 0xea ∷ 0 ∷ 1 ∷ 0xff ∷ 0 ∷ 0 ∷ 0 ∷ 1 ∷ 0x13 ∷ 0 ∷ 1 ∷ 0xff ∷ 0 ∷ 0 ∷ 0 ∷ 1 ∷ 0x12 ∷ 2 ∷ 1 ∷ 0x84 ∷ 0x84 ∷ 0 ∷ 0 ∷ 5 ∷ 0xdc ∷ 3 ∷ 2 ∷ 0x1a ∷ 0x18 ∷ 0 ∷ 0 ∷ 7 ∷ 0xd0 ∷ 0x3e ∷ 0 ∷ 0x1f ∷ 0 ∷ 6 ∷ 0x0a ∷ 0x0b ∷ 0x0c ∷ 0x0d ∷ 0x0e ∷ 0x0f ∷ 0x47 ∷ 0 ∷ 0x20 ∷ 0 ∷ 0x0d ∷ 0x20 ∷ 0x31 ∷ 0x42 ∷ 0x53 ∷ 0x64 ∷ 0x75 ∷ 0x3f ∷ 0 ∷ 4 ∷ 0 ∷ 0 ∷ 0x20 ∷ 0x31 ∷ 0x42 ∷ 0x53 ∷ 0x64 ∷ 0x75 ∷ 0 ∷ 1 ∷ 0xff ∷ 0 ∷ 0 ∷ 0 ∷ 1 ∷ 0x13 ∷ 0 ∷ 1 ∷ 0xff ∷ 0 ∷ 0 ∷ 0 ∷ 1 ∷ 0x13 ∷ 0 ∷ 1 ∷ 0xff ∷ 0 ∷ 0 ∷ 0 ∷ 1 ∷ 0x11 ∷ 0 ∷ 1 ∷ 0xff ∷ 0 ∷ 0 ∷ 0 ∷ 1 ∷ 0x11 ∷ 0 ∷ 1 ∷ 0xff ∷ 0 ∷ 0 ∷ 0 ∷ 1 ∷ 0x12 ∷ 0 ∷ 6 ∷ 0 ∷ 0x1f ∷ 0 ∷ 0x20 ∷ 0 ∷ 0x0d ∷ 0 ∷ 4 ∷ replicate 1413 0)
+    ∷ case (assemble peeringBook a113 a112 (solution 2 (edge 1 1 2 0 ∷ edge 0 1 2 1 ∷ [])) 1538) (0
+    ∷ 2 ∷ 3 ∷ 5 ∷ 0 ∷ 0 ∷ 0 ∷ 0 ∷ 0 ∷ 0x58 ∷ 0xea
+    ∷ 0 ∷ 1 ∷ 0xff ∷ 0 ∷ 0 ∷ 0 ∷ 1 ∷ 0x13 ∷ 0 ∷ 1 ∷ 0xff ∷ 0 ∷ 0 ∷ 0 ∷ 1 ∷ 0x12
+    ∷ 2 ∷ 1 ∷ 0x84 ∷ 0x84 ∷ 0 ∷ 0 ∷ 5 ∷ 0xdc
+    ∷ 3 ∷ 2 ∷ 0x1a ∷ 0x18 ∷ 0 ∷ 0 ∷ 7 ∷ 0xd0
+    ∷ 0x3e ∷ 0 ∷ 0x1f ∷ 0 ∷ 6 ∷ 0x0a ∷ 0x0b ∷ 0x0c ∷ 0x0d ∷ 0x0e ∷ 0x0f
+    ∷ 0x47 ∷ 0 ∷ 0x20 ∷ 0 ∷ 0x0d ∷ 0x20 ∷ 0x31 ∷ 0x42 ∷ 0x53 ∷ 0x64 ∷ 0x75
+    ∷ 0x3f ∷ 0 ∷ 4 ∷ 0 ∷ 0 ∷ 0x20 ∷ 0x31 ∷ 0x42 ∷ 0x53 ∷ 0x64 ∷ 0x75
+    ∷ 0 ∷ 1 ∷ 0xff ∷ 0 ∷ 0 ∷ 0 ∷ 1 ∷ 0x13
+    ∷ 0 ∷ 1 ∷ 0xff ∷ 0 ∷ 0 ∷ 0 ∷ 1 ∷ 0x13
+    ∷ 0 ∷ 1 ∷ 0xff ∷ 0 ∷ 0 ∷ 0 ∷ 1 ∷ 0x11
+    ∷ 0 ∷ 1 ∷ 0xff ∷ 0 ∷ 0 ∷ 0 ∷ 1 ∷ 0x11
+    ∷ 0 ∷ 1 ∷ 0xff ∷ 0 ∷ 0 ∷ 0 ∷ 1 ∷ 0x12
+    ∷ 0 ∷ 6 ∷ 0 ∷ 0x1f ∷ 0 ∷ 0x20 ∷ 0 ∷ 0x0d ∷ 0 ∷ 4
+    ∷ replicate 1413 0)
     -- the ids held: the router rule by hand over the Rust's paths
     ∷ case (hold peeringBook a112 a113 (solution 2 (edge 0 1 1 0 ∷ edge 1 1 1 1 ∷ []))) (0x1a18 ∷ 0x1a18 ∷ 0x8484 ∷ [])
     ∷ case (hold peeringBook a113 a112 (solution 2 (edge 1 1 1 0 ∷ edge 0 1 1 1 ∷ []))) (0x8484 ∷ 0x1a18 ∷ 0x1a18 ∷ [])
@@ -321,7 +374,26 @@ table =
     ∷ case (print (input threeBook a112 a111)) (Printed.ascii "solutions 1 paths 1\n1 cost 2 segments 2 mtu 1280 expiry 15462 hops 4\ninfo 0 1102 6000\ninfo 1 2000 5000\nif 0001ff0000000112 2\nif 0001ff0000000110 1\nif 0001ff0000000110 11\nif 0001ff0000000111 12\n")
     ∷ case (print (input threeBook a110 a113)) (Printed.ascii "solutions 1 paths 1\n1 cost 2 segments 2 mtu 1280 expiry 11087 hops 4\ninfo 1 2000 5000\ninfo 1 3000 4000\nif 0001ff0000000110 11\nif 0001ff0000000111 12\nif 0001ff0000000111 3\nif 0001ff0000000113 4\n")
     -- the Rust: the bytes of the path of three edges, and the ids held
-    ∷ case (assemble threeBook a112 a113 (solution 3 (edge 1 0 0 0 ∷ edge 0 0 0 1 ∷ edge 2 0 0 1 ∷ [])) 1538) (0 ∷ 3 ∷ 6 ∷ 6 ∷ 0 ∷ 5 ∷ 0 ∷ 0 ∷ 0 ∷ 0x2b ∷ 0x4f ∷ 0 ∷ 1 ∷ 0xff ∷ 0 ∷ 0 ∷ 0 ∷ 1 ∷ 0x12 ∷ 0 ∷ 1 ∷ 0xff ∷ 0 ∷ 0 ∷ 0 ∷ 1 ∷ 0x13 ∷ 0 ∷ 2 ∷ 0x11 ∷ 2 ∷ 0 ∷ 0 ∷ 0x17 ∷ 0x70 ∷ 1 ∷ 2 ∷ 0x20 ∷ 0 ∷ 0 ∷ 0 ∷ 0x13 ∷ 0x88 ∷ 1 ∷ 2 ∷ 0x30 ∷ 0 ∷ 0 ∷ 0 ∷ 0x0f ∷ 0xa0 ∷ 0x3f ∷ 0 ∷ 2 ∷ 0 ∷ 0 ∷ 0x0a ∷ 0x0b ∷ 0x0c ∷ 0x0d ∷ 0x0e ∷ 0x0f ∷ 0x3f ∷ 0 ∷ 0 ∷ 0 ∷ 1 ∷ 1 ∷ 2 ∷ 3 ∷ 4 ∷ 5 ∷ 6 ∷ 0x1f ∷ 0 ∷ 0 ∷ 0 ∷ 0x0b ∷ 0x20 ∷ 0x31 ∷ 0x42 ∷ 0x53 ∷ 0x64 ∷ 0x75 ∷ 0x1e ∷ 0 ∷ 0x0c ∷ 0 ∷ 0 ∷ 0x86 ∷ 0x97 ∷ 0xa8 ∷ 0xb9 ∷ 0xca ∷ 0xdb ∷ 0x14 ∷ 0 ∷ 0 ∷ 0 ∷ 3 ∷ 0x0a ∷ 0x0b ∷ 0x0c ∷ 0x0d ∷ 0x0e ∷ 0x0f ∷ 0x3f ∷ 0 ∷ 4 ∷ 0 ∷ 0 ∷ 1 ∷ 2 ∷ 3 ∷ 4 ∷ 5 ∷ 6 ∷ 0 ∷ 1 ∷ 0xff ∷ 0 ∷ 0 ∷ 0 ∷ 1 ∷ 0x12 ∷ 0 ∷ 1 ∷ 0xff ∷ 0 ∷ 0 ∷ 0 ∷ 1 ∷ 0x10 ∷ 0 ∷ 1 ∷ 0xff ∷ 0 ∷ 0 ∷ 0 ∷ 1 ∷ 0x10 ∷ 0 ∷ 1 ∷ 0xff ∷ 0 ∷ 0 ∷ 0 ∷ 1 ∷ 0x11 ∷ 0 ∷ 1 ∷ 0xff ∷ 0 ∷ 0 ∷ 0 ∷ 1 ∷ 0x11 ∷ 0 ∷ 1 ∷ 0xff ∷ 0 ∷ 0 ∷ 0 ∷ 1 ∷ 0x13 ∷ 0 ∷ 2 ∷ 0 ∷ 1 ∷ 0 ∷ 0x0b ∷ 0 ∷ 0x0c ∷ 0 ∷ 3 ∷ 0 ∷ 4 ∷ replicate 1362 0)
+    ∷ case (assemble threeBook a112 a113 (solution 3 (edge 1 0 0 0 ∷ edge 0 0 0 1 ∷ edge 2 0 0 1 ∷ [])) 1538) (0
+    ∷ 3 ∷ 6 ∷ 6 ∷ 0 ∷ 5 ∷ 0 ∷ 0 ∷ 0 ∷ 0x2b ∷ 0x4f
+    ∷ 0 ∷ 1 ∷ 0xff ∷ 0 ∷ 0 ∷ 0 ∷ 1 ∷ 0x12 ∷ 0 ∷ 1 ∷ 0xff ∷ 0 ∷ 0 ∷ 0 ∷ 1 ∷ 0x13
+    ∷ 0 ∷ 2 ∷ 0x11 ∷ 2 ∷ 0 ∷ 0 ∷ 0x17 ∷ 0x70
+    ∷ 1 ∷ 2 ∷ 0x20 ∷ 0 ∷ 0 ∷ 0 ∷ 0x13 ∷ 0x88
+    ∷ 1 ∷ 2 ∷ 0x30 ∷ 0 ∷ 0 ∷ 0 ∷ 0x0f ∷ 0xa0
+    ∷ 0x3f ∷ 0 ∷ 2 ∷ 0 ∷ 0 ∷ 0x0a ∷ 0x0b ∷ 0x0c ∷ 0x0d ∷ 0x0e ∷ 0x0f
+    ∷ 0x3f ∷ 0 ∷ 0 ∷ 0 ∷ 1 ∷ 1 ∷ 2 ∷ 3 ∷ 4 ∷ 5 ∷ 6
+    ∷ 0x1f ∷ 0 ∷ 0 ∷ 0 ∷ 0x0b ∷ 0x20 ∷ 0x31 ∷ 0x42 ∷ 0x53 ∷ 0x64 ∷ 0x75
+    ∷ 0x1e ∷ 0 ∷ 0x0c ∷ 0 ∷ 0 ∷ 0x86 ∷ 0x97 ∷ 0xa8 ∷ 0xb9 ∷ 0xca ∷ 0xdb
+    ∷ 0x14 ∷ 0 ∷ 0 ∷ 0 ∷ 3 ∷ 0x0a ∷ 0x0b ∷ 0x0c ∷ 0x0d ∷ 0x0e ∷ 0x0f
+    ∷ 0x3f ∷ 0 ∷ 4 ∷ 0 ∷ 0 ∷ 1 ∷ 2 ∷ 3 ∷ 4 ∷ 5 ∷ 6
+    ∷ 0 ∷ 1 ∷ 0xff ∷ 0 ∷ 0 ∷ 0 ∷ 1 ∷ 0x12
+    ∷ 0 ∷ 1 ∷ 0xff ∷ 0 ∷ 0 ∷ 0 ∷ 1 ∷ 0x10
+    ∷ 0 ∷ 1 ∷ 0xff ∷ 0 ∷ 0 ∷ 0 ∷ 1 ∷ 0x10
+    ∷ 0 ∷ 1 ∷ 0xff ∷ 0 ∷ 0 ∷ 0 ∷ 1 ∷ 0x11
+    ∷ 0 ∷ 1 ∷ 0xff ∷ 0 ∷ 0 ∷ 0 ∷ 1 ∷ 0x11
+    ∷ 0 ∷ 1 ∷ 0xff ∷ 0 ∷ 0 ∷ 0 ∷ 1 ∷ 0x13
+    ∷ 0 ∷ 2 ∷ 0 ∷ 1 ∷ 0 ∷ 0x0b ∷ 0 ∷ 0x0c ∷ 0 ∷ 3 ∷ 0 ∷ 4
+    ∷ replicate 1362 0)
     ∷ case (hold threeBook a112 a113 (solution 3 (edge 1 0 0 0 ∷ edge 0 0 0 1 ∷ edge 2 0 0 1 ∷ []))) (0x1102 ∷ 0x1000 ∷ 0x2000 ∷ 0x0031 ∷ 0x3000 ∷ 0x3a0b ∷ [])
     ∷ case (hold threeBook a113 a112 (solution 3 (edge 2 0 0 0 ∷ edge 0 0 0 0 ∷ edge 1 0 0 1 ∷ []))) (0x3a0b ∷ 0x3000 ∷ 0x0031 ∷ 0x2000 ∷ 0x1000 ∷ 0x1102 ∷ [])
     -- the Rust: two segments that cross
@@ -383,8 +455,7 @@ table =
     ∷ case (room 65536) (4096 ∷ [])
     ∷ case (room 65552) (4096 ∷ [])
     ∷ case (room 1000000) (4096 ∷ [])
-    -- document 01: answers 1 to 7, and their order
-    -- 1: under 8 bytes, a head or a byte of the bodies is lacking
+    -- document 01: answers 1 to 7 and their order. 1: under 8 bytes, a head or a byte of the bodies is lacking
     ∷ case (accept (replicate 0 0)) (1 ∷ [])
     ∷ case (accept (0 ∷ 65 ∷ replicate 5 0)) (1 ∷ [])
     ∷ case (accept (0 ∷ 1 ∷ replicate 15 0)) (1 ∷ [])
@@ -393,9 +464,9 @@ table =
     ∷ case (accept (replicate 5 0 ++ (1 ∷ 0 ∷ 0 ∷ []))) (1 ∷ [])
     -- 2: a byte more; also where a head has 17 entries
     ∷ case (accept (replicate 9 0)) (2 ∷ [])
-    ∷ case (accept (0 ∷ 0 ∷ 0 ∷ 1 ∷ (replicate 10 0 ++ (0 ∷ 17 ∷ replicate 3 0)))) (2 ∷ [])
+    ∷ case (accept (sized 0 1 0 (says 17 0 ∷ []) (0 ∷ []))) (2 ∷ [])
     -- and 1 where a byte is lacking there
-    ∷ case (accept (0 ∷ 0 ∷ 0 ∷ 1 ∷ (replicate 3 0 ++ (1 ∷ (replicate 6 0 ++ (0 ∷ 17 ∷ 0 ∷ 0 ∷ [])))))) (1 ∷ [])
+    ∷ case (accept (sized 0 1 1 (says 17 0 ∷ []) [])) (1 ∷ [])
     -- 3: 61441 bytes, before 4, 1 and 2; 61440 zeros are a surplus
     ∷ case (accept (0 ∷ 65 ∷ replicate 61439 0)) (3 ∷ [])
     ∷ case (accept (replicate 61440 0)) (2 ∷ [])
@@ -408,33 +479,33 @@ table =
     ∷ case (accept (0 ∷ 1 ∷ replicate 16 0)) (0 ∷ [])
     ∷ case (accept (0 ∷ 0 ∷ 0 ∷ 1 ∷ replicate 14 0)) (0 ∷ [])
     -- 5: over all heads, before the sum and every body
-    ∷ case (accept (0 ∷ 0 ∷ 0 ∷ 2 ∷ 0 ∷ 0 ∷ 0 ∷ 26 ∷ (replicate 7 0 ++ (1 ∷ 0 ∷ 26 ∷ (replicate 7 0 ++ (17 ∷ (replicate 27 0 ++ (5 ∷ [])))))))) (5 ∷ [])
-    ∷ case (accept (0 ∷ 0 ∷ 0 ∷ 2 ∷ 0 ∷ 0 ∷ 0 ∷ 26 ∷ (replicate 7 0 ++ (1 ∷ 0 ∷ 25 ∷ (replicate 7 0 ++ (17 ∷ replicate 28 0)))))) (5 ∷ [])
+    ∷ case (accept (sized 0 2 26 (says 1 26 ∷ says 17 0 ∷ []) (blank 5))) (5 ∷ [])
+    ∷ case (accept (sized 0 2 26 (says 1 25 ∷ says 17 0 ∷ []) (blank 0))) (5 ∷ [])
     -- 7: the lengths do not sum to B, here where every body is filled; before 6
-    ∷ case (accept (0 ∷ 0 ∷ 0 ∷ 1 ∷ 0 ∷ 0 ∷ 0 ∷ 27 ∷ (replicate 7 0 ++ (1 ∷ 0 ∷ 26 ∷ replicate 27 0)))) (7 ∷ [])
-    ∷ case (accept (0 ∷ 0 ∷ 0 ∷ 1 ∷ 0 ∷ 0 ∷ 0 ∷ 142 ∷ (replicate 7 0 ++ (1 ∷ 0 ∷ 141 ∷ (replicate 25 0 ++ (5 ∷ replicate 116 0)))))) (7 ∷ [])
+    ∷ case (accept (sized 0 1 27 (says 1 26 ∷ []) (blank 0 ++ (0 ∷ [])))) (7 ∷ [])
+    ∷ case (accept (sized 0 1 142 (says 1 141 ∷ []) (blank 5 ++ replicate 116 0))) (7 ∷ [])
     -- 7: a body one byte short, one byte long, an empty one with a byte
-    ∷ case (accept (0 ∷ 0 ∷ 0 ∷ 1 ∷ 0 ∷ 0 ∷ 0 ∷ 25 ∷ (replicate 7 0 ++ (1 ∷ 0 ∷ 25 ∷ replicate 25 0)))) (7 ∷ [])
-    ∷ case (accept (0 ∷ 0 ∷ 0 ∷ 1 ∷ 0 ∷ 0 ∷ 0 ∷ 27 ∷ (replicate 7 0 ++ (1 ∷ 0 ∷ 27 ∷ replicate 27 0)))) (7 ∷ [])
-    ∷ case (accept (0 ∷ 0 ∷ 0 ∷ 1 ∷ 0 ∷ 0 ∷ 0 ∷ 1 ∷ (replicate 9 0 ++ (1 ∷ 0 ∷ [])))) (7 ∷ [])
+    ∷ case (accept (sized 0 1 25 (says 1 25 ∷ []) (replicate 25 0))) (7 ∷ [])
+    ∷ case (accept (sized 0 1 27 (says 1 27 ∷ []) (blank 0 ++ (0 ∷ [])))) (7 ∷ [])
+    ∷ case (accept (sized 0 1 1 (says 0 1 ∷ []) (0 ∷ []))) (7 ∷ [])
     -- 6: five peers, also where their bytes are lacking, and at the second entry; four pass
-    ∷ case (accept (0 ∷ 0 ∷ 0 ∷ 1 ∷ 0 ∷ 0 ∷ 0 ∷ 141 ∷ (replicate 7 0 ++ (1 ∷ 0 ∷ 141 ∷ (replicate 25 0 ++ (5 ∷ replicate 115 0)))))) (6 ∷ [])
-    ∷ case (accept (0 ∷ 0 ∷ 0 ∷ 1 ∷ 0 ∷ 0 ∷ 0 ∷ 26 ∷ (replicate 7 0 ++ (1 ∷ 0 ∷ 26 ∷ (replicate 25 0 ++ (5 ∷ [])))))) (6 ∷ [])
-    ∷ case (accept (0 ∷ 0 ∷ 0 ∷ 1 ∷ 0 ∷ 0 ∷ 0 ∷ 52 ∷ (replicate 7 0 ++ (2 ∷ 0 ∷ 52 ∷ (replicate 51 0 ++ (5 ∷ [])))))) (6 ∷ [])
-    ∷ case (accept (0 ∷ 0 ∷ 0 ∷ 1 ∷ 0 ∷ 0 ∷ 0 ∷ 118 ∷ (replicate 7 0 ++ (1 ∷ 0 ∷ 118 ∷ (replicate 25 0 ++ (4 ∷ replicate 92 0)))))) (0 ∷ [])
+    ∷ case (accept (sized 0 1 141 (says 1 141 ∷ []) (blank 5 ++ replicate 115 0))) (6 ∷ [])
+    ∷ case (accept (sized 0 1 26 (says 1 26 ∷ []) (blank 5))) (6 ∷ [])
+    ∷ case (accept (sized 0 1 52 (says 2 52 ∷ []) (blank 0 ++ blank 5))) (6 ∷ [])
+    ∷ case (accept (sized 0 1 118 (says 1 118 ∷ []) (blank 4 ++ replicate 92 0))) (0 ∷ [])
     -- 7: a peer one byte short or long; an entry that lacks a byte, before its peer count is looked at
-    ∷ case (accept (0 ∷ 0 ∷ 0 ∷ 1 ∷ 0 ∷ 0 ∷ 0 ∷ 48 ∷ (replicate 7 0 ++ (1 ∷ 0 ∷ 48 ∷ (replicate 25 0 ++ (1 ∷ replicate 22 0)))))) (7 ∷ [])
-    ∷ case (accept (0 ∷ 0 ∷ 0 ∷ 1 ∷ 0 ∷ 0 ∷ 0 ∷ 50 ∷ (replicate 7 0 ++ (1 ∷ 0 ∷ 50 ∷ (replicate 25 0 ++ (1 ∷ replicate 24 0)))))) (7 ∷ [])
-    ∷ case (accept (0 ∷ 0 ∷ 0 ∷ 2 ∷ 0 ∷ 0 ∷ 0 ∷ 52 ∷ (replicate 7 0 ++ (1 ∷ 0 ∷ 25 ∷ (replicate 7 0 ++ (1 ∷ 0 ∷ 27 ∷ (replicate 25 0 ++ (5 ∷ replicate 26 0)))))))) (7 ∷ [])
+    ∷ case (accept (sized 0 1 48 (says 1 48 ∷ []) (blank 1 ++ replicate 22 0))) (7 ∷ [])
+    ∷ case (accept (sized 0 1 50 (says 1 50 ∷ []) (blank 1 ++ replicate 24 0))) (7 ∷ [])
+    ∷ case (accept (sized 0 2 52 (says 1 25 ∷ says 1 27 ∷ []) (replicate 25 0 ++ (5 ∷ []) ++ replicate 26 0))) (7 ∷ [])
     -- bodies by position
-    ∷ case (accept (0 ∷ 1 ∷ 0 ∷ 1 ∷ 0 ∷ 0 ∷ 0 ∷ 53 ∷ (replicate 7 0 ++ (1 ∷ 0 ∷ 27 ∷ (replicate 7 0 ++ (1 ∷ 0 ∷ 26 ∷ (replicate 52 0 ++ (5 ∷ [])))))))) (7 ∷ [])
-    ∷ case (accept (0 ∷ 1 ∷ 0 ∷ 1 ∷ 0 ∷ 0 ∷ 0 ∷ 53 ∷ (replicate 7 0 ++ (1 ∷ 0 ∷ 26 ∷ (replicate 7 0 ++ (1 ∷ 0 ∷ 27 ∷ (replicate 25 0 ++ (5 ∷ replicate 27 0)))))))) (6 ∷ [])
+    ∷ case (accept (sized 1 1 53 (says 1 27 ∷ says 1 26 ∷ []) (blank 0 ++ (0 ∷ []) ++ blank 5))) (7 ∷ [])
+    ∷ case (accept (sized 1 1 53 (says 1 26 ∷ says 1 27 ∷ []) (blank 5 ++ blank 0 ++ (0 ∷ [])))) (6 ∷ [])
     -- a refused book: listing and assembly give its number, whatever else is wrong, and zeros
     ∷ case (list (replicate 9 0) a111 a110 20) (65538 ∷ replicate 20 0)
     ∷ case (assemble (replicate 9 0) a111 a110 [] 3) (65538 ∷ replicate 3 0)
     -- document 01: 9 before 10
     ∷ case (assemble workedBytes a111 a110 (0 ∷ 1 ∷ 1 ∷ replicate 13 0) 1537) (65545 ∷ replicate 1537 0)
-    ∷ case (assemble workedBytes a111 a110 ([]) 1537) (65545 ∷ replicate 1537 0)
+    ∷ case (assemble workedBytes a111 a110 (replicate 16 0) 1537) (65545 ∷ replicate 1537 0)
     -- document 01: 10: another cost, count, third byte, position, shortcut, peer, direction; an unused edge that is not zero; 15 bytes, 17 bytes; the ends turned round
     ∷ case (assemble workedBytes a111 a110 (0 ∷ 2 ∷ 1 ∷ replicate 13 0) 1538) (65546 ∷ replicate 1538 0)
     ∷ case (assemble workedBytes a111 a110 (0 ∷ 1 ∷ 2 ∷ replicate 13 0) 1538) (65546 ∷ replicate 1538 0)
