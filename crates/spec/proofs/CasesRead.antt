@@ -11,7 +11,7 @@ use Rattle.spec.proofs.Membership.{T-true, true-T, and-true}
 use Rattle.spec.proofs.AnswerLaws.{sameList-eq}
 use Rattle.spec.proofs.CasesForm.{Case, answer, right, every}
 use Rattle.spec.proofs.Cases
-use Rattle.spec.proofs.BenchCases
+use Rattle.spec.proofs.AddedCases
 
 every-mem : (p : Case → Bool) (cs : List Case) → T (every p cs) → (c : Case) → Mem c cs → p c ≡ true
 unfolding every
@@ -30,14 +30,14 @@ pub p-answer : (digest : List ℕ → List ℕ) (c : Case) → Mem c Cases.table
 p-answer digest = answered digest Cases.table (Cases.all-right digest)
 
 -- the second table, and its cases with SHA-256
-both : T (every (right BenchCases.unhashed) BenchCases.table) × T (every (right sha256) BenchCases.hashed)
+both : T (every (right AddedCases.unhashed) AddedCases.table) × T (every (right sha256) AddedCases.hashed)
 both =
-    let h = and-true (every (right BenchCases.unhashed) BenchCases.table) (every (right sha256) BenchCases.hashed)
-    (T-true (every (right BenchCases.unhashed) BenchCases.table && every (right sha256) BenchCases.hashed) BenchCases.all-right) in
-    (true-T (every (right BenchCases.unhashed) BenchCases.table) (h .0), true-T (every (right sha256) BenchCases.hashed) (h .1))
+    let h = and-true (every (right AddedCases.unhashed) AddedCases.table) (every (right sha256) AddedCases.hashed)
+    (T-true (every (right AddedCases.unhashed) AddedCases.table && every (right sha256) AddedCases.hashed) AddedCases.all-right) in
+    (true-T (every (right AddedCases.unhashed) AddedCases.table) (h .0), true-T (every (right sha256) AddedCases.hashed) (h .1))
 
-pub bench-answer : (c : Case) → Mem c BenchCases.table → answer BenchCases.unhashed (c .question) ≡ c .expected
-bench-answer = answered BenchCases.unhashed BenchCases.table (both .0)
+pub added-answer : (c : Case) → Mem c AddedCases.table → answer AddedCases.unhashed (c .question) ≡ c .expected
+added-answer = answered AddedCases.unhashed AddedCases.table (both .0)
 
-pub hashed-answer : (c : Case) → Mem c BenchCases.hashed → answer sha256 (c .question) ≡ c .expected
-hashed-answer = answered sha256 BenchCases.hashed (both .1)
+pub hashed-answer : (c : Case) → Mem c AddedCases.hashed → answer sha256 (c .question) ≡ c .expected
+hashed-answer = answered sha256 AddedCases.hashed (both .1)

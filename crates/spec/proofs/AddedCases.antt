@@ -181,13 +181,13 @@ coreBook =
     ∷ [])
     []
 
--- a peering link of which three other peers have an end that differs in one number
+-- a peering link, and after it peers whose ends differ from it in one number
 abbrev pub endsBook : List ℕ
 endsBook =
     book
     []
     (segment 1 0x1 (entry a110 1500 0 0 0 63 mac0 (peer a111 7 1500 63 5 0 mac0 ∷ []) ∷ [])
-    ∷ segment 1 0x2 (entry a111 1500 0 0 0 63 mac0 (peer a114 5 1500 63 7 0 mac0 ∷ peer a110 6 1500 63 7 0 mac0 ∷ peer a110 5 1500 63 8 0 mac0 ∷ peer a110 5 1500 63 7 0 mac0 ∷ []) ∷ [])
+    ∷ segment 1 0x2 (entry a111 1500 0 0 0 63 mac0 (peer a110 5 1500 63 7 0 mac0 ∷ peer a114 5 1500 63 7 0 mac0 ∷ peer a110 6 1500 63 7 0 mac0 ∷ peer a110 5 1500 63 8 0 mac0 ∷ []) ∷ [])
     ∷ segment 1 0x3 (entry a113 1500 0 0 0 63 mac0 (peer a110 5 1500 63 7 0 mac0 ∷ []) ∷ [])
     ∷ [])
 
@@ -200,13 +200,16 @@ corePeersBook =
     (segment 1 0x2 (entry a111 1500 0 0 0 63 mac0 (peer a110 1 1500 63 2 0 mac0 ∷ []) ∷ [])
     ∷ [])
 
--- from a111 to a112 by a110 itself, or over its peering link, at equal cost
+-- from a111 to a112 by a110 itself, whole or at shortcut 1, or over its peering link at shortcut 1, at equal cost
 abbrev pub noneBook : List ℕ
 noneBook =
     book
     []
-    (segment 1 0x1 (entry a110 1500 0 0 1 63 mac0 (peer a112 4 1500 63 3 1 mac0 ∷ []) ∷ entry a111 1500 0 2 0 63 mac1 [] ∷ [])
-    ∷ segment 1 0x2 (entry a110 1500 0 0 5 63 mac0 [] ∷ entry a112 1500 0 6 0 63 mac1 (peer a110 3 1500 63 4 0 mac0 ∷ []) ∷ [])
+    (segment 1 0x1 (entry a110 1500 0 0 7 63 mac0 [] ∷ entry a111 1500 0 8 0 63 mac1 [] ∷ [])
+    ∷ segment 1 0x2 (entry a114 1500 0 0 9 63 mac2 []
+    ∷ entry a110 1500 0 9 1 63 mac0 (peer a112 4 1500 63 3 1 mac0 ∷ [])
+    ∷ entry a111 1500 0 2 0 63 mac1 [] ∷ [])
+    ∷ segment 1 0x3 (entry a110 1500 0 0 5 63 mac0 [] ∷ entry a112 1500 0 6 0 63 mac1 (peer a110 3 1500 63 4 0 mac0 ∷ []) ∷ [])
     ∷ [])
 
 -- two segments from a111 to a110 of cost 1, the second at shortcut 1
@@ -430,11 +433,11 @@ table =
     ∷ case (list coreBook a112 a111 16) (0 ∷ replicate 16 0)
     ∷ case (list coreBook a110 a111 16) (0 ∷ replicate 16 0)
     -- the Rust: peering ends are equal in all four; peers of a core give no edges
-    ∷ case (list endsBook a110 a111 16) (1 ∷ solution 1 (edge 0 0 1 0 ∷ edge 1 0 4 1 ∷ []))
+    ∷ case (list endsBook a110 a111 16) (1 ∷ solution 1 (edge 0 0 1 0 ∷ edge 1 0 1 1 ∷ []))
     ∷ case (list endsBook a110 a113 16) (0 ∷ replicate 16 0)
     ∷ case (list corePeersBook a110 a111 16) (0 ∷ replicate 16 0)
-    -- the Rust: none before peer 0 at equal cost
-    ∷ case (list noneBook a111 a112 32) (2 ∷ (solution 2 (edge 0 0 0 0 ∷ edge 1 0 0 1 ∷ []) ++ solution 2 (edge 0 0 1 0 ∷ edge 1 1 1 1 ∷ [])))
+    -- the Rust: none before peer 0 at equal cost, whatever the shortcut
+    ∷ case (list noneBook a111 a112 48) (3 ∷ (solution 2 (edge 1 1 0 0 ∷ edge 2 0 0 1 ∷ []) ++ solution 2 (edge 0 0 0 0 ∷ edge 2 0 0 1 ∷ []) ++ solution 2 (edge 1 1 1 0 ∷ edge 2 1 1 1 ∷ [])))
     -- the Rust: the larger shortcut first
     ∷ case (list shortcutsBook a111 a110 32) (2 ∷ (solution 1 (edge 1 1 0 0 ∷ []) ++ solution 1 (edge 0 0 0 0 ∷ [])))
     -- the Rust: the cheaper first, and at equal cost fewer edges
