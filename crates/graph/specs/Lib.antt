@@ -1,0 +1,4 @@
+pub mod Lookup
+pub mod Leaving
+pub mod Search
+pub mod Pushed

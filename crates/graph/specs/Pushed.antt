@@ -1,0 +1,27 @@
+-- The lent buffer as slots that are filled from the front, and a count that stops one past the slots there are.
+-- Assumes nothing.
+use Prim.Native.Nat.{ℕ, _+_, _*_}
+use mathlib.Core.Bool.{Bool}
+use mathlib.Core.List.{List, [], _∷_, _++_}
+use lib.ListN.{take, drop}
+use lib.Dec.{ltb}
+use Rattle.spec.specs.declared.Edge.{Edge}
+use Rattle.spec.specs.Limits.{solutionSize}
+use Rattle.spec.specs.Basics.{if_then_else_}
+use Rattle.spec.specs.Records.{solutionOctets}
+
+-- the count, and what the buffer holds
+abbrev pub Slots : Type 0
+Slots = ℕ × List ℕ
+
+-- a buffer with the record r at slot q
+unfoldable pub putAt : List ℕ → ℕ → List ℕ → List ℕ
+putAt s q r = take (solutionSize * q) s ++ r ++ drop (solutionSize * q + solutionSize) s
+
+-- one chain more, of which there is room for `slots`
+unfoldable pub pushOne : ℕ → Slots → List Edge → Slots
+pushOne slots st c = if ltb (st .0) slots then (st .0 + 1, putAt (st .1) (st .0) (solutionOctets c)) else (slots + 1, st .1)
+
+unfoldable pub pushed : ℕ → Slots → List (List Edge) → Slots
+pushed slots st [] = st
+pushed slots st (c ∷ cs) = pushed slots (pushOne slots st c) cs

@@ -1,0 +1,8 @@
+// The stored edges of a book and the chains of them: what graph.rs calls the multigraph, worked out of the book where it lies.
+use spec::Edge;
+
+// What is found between two vertices.
+pub enum Found {
+    Edge(Edge),
+    Nothing,
+}
