@@ -13,8 +13,8 @@ use lib.Dec.{eqb}
 use Rattle.spec.specs.declared.HopField.{HopField}
 use Rattle.spec.specs.declared.InfoField.{InfoField}
 use Rattle.spec.specs.Basics.{range, padded}
-use Rattle.spec.specs.Octets.{be16, be32, octets2, octets4}
-use Rattle.spec.specs.Book.{macAt}
+use Rattle.spec.specs.Octets.{be16, be32, be64, octets2, octets4, octets8}
+use Rattle.spec.specs.Book.{macAt, isdAsnAt}
 use Rattle.spec.specs.declared.Edge.{Edge}
 use Rattle.spec.specs.declared.SolutionEdge.{SolutionEdge}
 use Rattle.spec.specs.Order.{cost, solutionEdge, compareSolutions, compareChains}
@@ -32,10 +32,16 @@ pub octets4-back : (x : ℕ) (rest : List ℕ) → x < 2 ^ 32 → be32 (octets4 
 unfolding be32 be16 octets4 octets2
 octets4-back x rest h = omega arith
 
+pub octets8-back : (x : ℕ) (rest : List ℕ) → x < 2 ^ 64 → be64 (octets8 x ++ rest) 0 ≡ x
+unfolding be64 be32 be16 octets8 octets4 octets2
+octets8-back x rest h =
+    ap₂ (λ a c. a * 2 ^ 32 + c) (octets4-back (x / 2 ^ 32) [] (omega arith)) (octets4-back (x % 2 ^ 32) [] (omega arith))
+    ∙ omega arith
+
 -- ---- at an offset
 
 module _ (xs ys : List ℕ) where
-  be16-shift : (i : ℕ) → be16 (xs ++ ys) (length xs + i) ≡ be16 ys i
+  pub be16-shift : (i : ℕ) → be16 (xs ++ ys) (length xs + i) ≡ be16 ys i
   unfolding be16
   be16-shift i =
       ap₂ (λ a c. a * 2 ^ 8 + c) (getD-append-add xs ys i 0)
@@ -46,6 +52,16 @@ module _ (xs ys : List ℕ) where
   be32-shift i =
       ap₂ (λ a c. a * 2 ^ 16 + c) (be16-shift i)
       (ap (be16 (xs ++ ys)) (add-assoc (length xs) i 2) ∙ be16-shift (i + 2))
+
+  be64-shift : (i : ℕ) → be64 (xs ++ ys) (length xs + i) ≡ be64 ys i
+  unfolding be64
+  be64-shift i =
+      ap₂ (λ a c. a * 2 ^ 32 + c) (be32-shift i)
+      (ap (be32 (xs ++ ys)) (add-assoc (length xs) i 4) ∙ be32-shift (i + 4))
+
+  pub isdAsnAt-shift : (i : ℕ) → isdAsnAt (xs ++ ys) (length xs + i) ≡ isdAsnAt ys i
+  unfolding isdAsnAt
+  isdAsnAt-shift i = simp be64-shift
 
   macAt-shift : (i : ℕ) → macAt (xs ++ ys) (length xs + i) ≡ macAt ys i
   unfolding macAt
@@ -146,7 +162,7 @@ module _ {A : Type 0} (dec : List ℕ → ℕ → A) (enc : A → List ℕ) (Goo
 
 -- ---- a solution's record
 
-edgeAt-shift : (xs ys : List ℕ) (i : ℕ) → edgeAt (xs ++ ys) (length xs + i) ≡ edgeAt ys i
+pub edgeAt-shift : (xs ys : List ℕ) (i : ℕ) → edgeAt (xs ++ ys) (length xs + i) ≡ edgeAt ys i
 unfolding edgeAt
 edgeAt-shift xs ys i = simp (add-assoc, getD-append-add)
 
@@ -155,11 +171,11 @@ unfolding bit
 flag-back true = refl
 flag-back false = refl
 
-edge-back : (e : SolutionEdge) → Unit {0} → (rest : List ℕ) → edgeAt (edgeOctets e ++ rest) 0 ≡ e
+pub edge-back : (e : SolutionEdge) → Unit {0} → (rest : List ℕ) → edgeAt (edgeOctets e ++ rest) 0 ≡ e
 unfolding edgeAt edgeOctets
 edge-back e g rest = λ k. record { position = e .position; shortcut = e .shortcut; peer = e .peer; construction = flag-back (e .construction) k }
 
-edge-length : (e : SolutionEdge) → Unit {0} → length (edgeOctets e) ≡ 4
+pub edge-length : (e : SolutionEdge) → Unit {0} → length (edgeOctets e) ≡ 4
 unfolding edgeOctets
 edge-length e g = refl
 

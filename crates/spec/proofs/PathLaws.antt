@@ -148,7 +148,7 @@ module _ (b : List ℕ) (bytes : Bytes b) (c : List Edge) (st : (e : Edge) → M
   abbrev path : CombinedPath
   path = combinedPath b c
 
-  good-infos : (i : InfoField) → Mem i (path .infos) → GoodInfo i
+  pub good-infos : (i : InfoField) → Mem i (path .infos) → GoodInfo i
   unfolding combinedPath infoOn segmentOf
   good-infos i m = let w = map-mem (infoOn b) c m in subst GoodInfo (sym (w .2)) (info-good b bytes (w .0 .position) (w .0))
 

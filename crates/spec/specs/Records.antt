@@ -3,7 +3,7 @@
 use Prim.Native.Nat.{ℕ, _+_, _-_, _*_, _/_, min}
 use mathlib.Core.Bool.{Bool}
 use mathlib.Core.List.{List, [], _∷_, _++_, map, flatMap}
-use lib.ListN.{length, getD}
+use lib.ListN.{length, getD, replicate}
 use lib.Dec.{eqb}
 use Rattle.spec.specs.declared.IsdAsn.{IsdAsn}
 use Rattle.spec.specs.declared.HopField.{HopField}
@@ -13,7 +13,7 @@ use Rattle.spec.specs.declared.Edge.{Edge}
 use Rattle.spec.specs.declared.SolutionEdge.{SolutionEdge}
 use Rattle.spec.specs.declared.Solution.{Solution}
 use Rattle.spec.specs.declared.Path.{Path}
-use Rattle.spec.specs.Limits.{maxEdges, solutionSize, solutionHeadSize, edgeSize, maxSlots}
+use Rattle.spec.specs.Limits.{maxEdges, solutionSize, solutionHeadSize, edgeSize, maxSlots, pathHeadSize, infoSize, hopSize}
 use Rattle.spec.specs.Basics.{if_then_else_, range, padded}
 use Rattle.spec.specs.Octets.{be16, be32, octets2, octets4, octets8}
 use Rattle.spec.specs.Book.{isdAsnAt}
@@ -47,6 +47,19 @@ recordEdge r k = edgeAt r (edgeOffset k)
 -- a record as a whole
 unfoldable pub solutionIn : List ℕ → Solution
 solutionIn r = record { cost = be16 r 0; count = getD r 2 0; edges = map (recordEdge r) (range 0 maxEdges) }
+
+-- what an unused edge reads as: all zero
+unfoldable pub noEdge : SolutionEdge
+noEdge = edgeAt [] 0
+
+-- what the record of a chain says
+unfoldable pub solutionOf : List Edge → Solution
+solutionOf c =
+    record {
+      cost = cost c;
+      count = length c;
+      edges = map solutionEdge c ++ replicate (maxEdges - length c) noEdge;
+    }
 
 -- how many solutions fit in so many bytes
 unfoldable pub slots : ℕ → ℕ
@@ -115,3 +128,17 @@ pathHeadIn r =
       first = isdAsnAt r 10;
       last = isdAsnAt r 18;
     }
+
+-- where the interface ASes start, after as many infos and hops as the record says, and where the interface ids do
+unfoldable pub asesOffset : List ℕ → ℕ
+asesOffset r = pathHeadSize + infoSize * pathHeadIn r .infos + hopSize * pathHeadIn r .hops
+
+unfoldable pub idsOffset : List ℕ → ℕ
+idsOffset r = asesOffset r + 8 * pathHeadIn r .interfaces
+
+-- interface k
+unfoldable pub recordInterface : List ℕ → ℕ → PathInterface
+recordInterface r k = record { local = isdAsnAt r (asesOffset r + 8 * k); id = be16 r (idsOffset r + 2 * k) }
+
+unfoldable pub interfacesIn : List ℕ → List PathInterface
+interfacesIn r = map (recordInterface r) (range 0 (pathHeadIn r .interfaces))
