@@ -1,0 +1,2 @@
+pub mod SearchLists
+pub mod SearchLaws
