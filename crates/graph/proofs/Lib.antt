@@ -1,2 +1,4 @@
 pub mod SearchLists
 pub mod SearchLaws
+pub mod SearchFound
+pub mod PushedLaws

@@ -93,7 +93,7 @@ module _ {A : Type 0} (f : Segment → List A) (b : List ℕ) where
 
 -- ---- edges of a segment
 
-leaving-over : (b : List ℕ) (v : Vertex) → leaving v (storedEdges b) ≡ flatMap (leavingOf v) (firsts (segments b))
+pub leaving-over : (b : List ℕ) (v : Vertex) → leaving v (storedEdges b) ≡ flatMap (leavingOf v) (firsts (segments b))
 unfolding leaving storedEdges leavingOf
 leaving-over b v = through (filter (leaves v)) (unfold filter in refl) (filter-append (leaves v)) storedOf (firsts (segments b))
 
