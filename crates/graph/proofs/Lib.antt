@@ -2,3 +2,5 @@ pub mod SearchLists
 pub mod SearchLaws
 pub mod SearchFound
 pub mod PushedLaws
+pub mod PushedRecords
+pub mod PushedTurns

@@ -35,11 +35,11 @@ pushed-one slots st c = refl
 
 -- ---- with room left, and with none
 
-record-room : (slots n : ℕ) (out r : List ℕ) → n < slots → pushRecord slots (n, out) r ≡ (n + 1, putAt out n r)
+pub record-room : (slots n : ℕ) (out r : List ℕ) → n < slots → pushRecord slots (n, out) r ≡ (n + 1, putAt out n r)
 unfolding pushRecord
 record-room slots n out r h = ap (λ t. if t then (n + 1, putAt out n r) else (slots + 1, out)) (lt-ltb n slots h)
 
-record-full : (slots n : ℕ) (out r : List ℕ) → slots ≤ n → pushRecord slots (n, out) r ≡ (slots + 1, out)
+pub record-full : (slots n : ℕ) (out r : List ℕ) → slots ≤ n → pushRecord slots (n, out) r ≡ (slots + 1, out)
 unfolding pushRecord
 record-full slots n out r h = ap (λ t. if t then (n + 1, putAt out n r) else (slots + 1, out)) (le-ltb n slots h)
 
