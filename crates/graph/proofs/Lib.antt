@@ -4,3 +4,4 @@ pub mod SearchFound
 pub mod PushedLaws
 pub mod PushedRecords
 pub mod PushedTurns
+pub mod SearchTurns
