@@ -5,3 +5,4 @@ pub mod PushedLaws
 pub mod PushedRecords
 pub mod PushedTurns
 pub mod SearchTurns
+pub mod SearchBounds

@@ -4,7 +4,7 @@ use Prim.Native.Nat.{ℕ, _+_, _-_, _≤_, _<_}
 use native.Mathlib.Omega.{arith}
 use mathlib.Core.Path.{_≡_, refl, sym, ap, ap₂, _∙_}
 use mathlib.Core.Bool.{Bool, true, false}
-use mathlib.Core.List.{List, [], _∷_, _++_, map, flatMap, append-nil}
+use mathlib.Core.List.{List, [], _∷_, _++_, map, flatMap, append-nil, append-assoc}
 use lib.ListN.{length}
 use lib.Dec.{ltb, eqb}
 use borrow.Author.Tests.{lt-ltb, le-ltb, eq-eqb, ne-eqb}
@@ -25,7 +25,7 @@ use Rattle.graph.proofs.SearchLaws.{over-split, over-none, from-arrived
 
 -- ---- the kind of a position
 
-core-at : (b : List ℕ) (k : ℕ) → k < cores b → segmentAt b k .core ≡ true
+pub core-at : (b : List ℕ) (k : ℕ) → k < cores b → segmentAt b k .core ≡ true
 unfolding segmentAt
 core-at b k h = lt-ltb k (cores b) h
 
@@ -159,10 +159,14 @@ module _ (f : Edge → List (List Edge)) where
         let e : n ≡ m - 0 = omega arith in
         ap (λ k. flatMap f (flatMap g (range 0 k))) e
 
-    pub each-turn : (i n : ℕ) → i < n → flatMap f (flatMap g (range i (n - i))) ≡ flatMap f (g i) ++ flatMap f (flatMap g (range (i + 1) (n - (i + 1))))
+    each-turn : (i n : ℕ) → i < n → flatMap f (flatMap g (range i (n - i))) ≡ flatMap f (g i) ++ flatMap f (flatMap g (range (i + 1) (n - (i + 1))))
     unfolding flatMap
     each-turn i n h =
         ap (λ l. flatMap f (flatMap g l)) (range-turn i n h) ∙ flatMap-append f (g i) (flatMap g (range (i + 1) (n - (i + 1))))
+
+    pub each-found : (i n : ℕ) (r : Found) → i < n → foundEdges r ≡ g i
+        → flatMap f (flatMap g (range i (n - i))) ≡ flatMap f (foundEdges r) ++ flatMap f (flatMap g (range (i + 1) (n - (i + 1))))
+    each-found i n r h q = each-turn i n h ∙ ap (λ l. flatMap f l ++ flatMap f (flatMap g (range (i + 1) (n - (i + 1))))) (sym q)
 
     pub each-end : (i n : ℕ) → n ≤ i → flatMap f (flatMap g (range i (n - i))) ≡ []
     unfolding flatMap range
@@ -171,9 +175,64 @@ module _ (f : Edge → List (List Edge)) where
         ap (λ k. flatMap f (flatMap g (range i k))) e
 
   -- an entry's edges: to its AS, and to its peering ends
-  pub ups-both : (seg : Segment) (i : ℕ) (r : Found) → foundEdges r ≡ asUp seg i
-      → flatMap f (upsAt seg i) ≡ flatMap f (foundEdges r) ++ flatMap f (flatMap (peerUp seg i) (range 0 (peerCountOf seg i)))
+  pub ups-turn : (seg : Segment) (i n : ℕ) (r : Found) → i < n → foundEdges r ≡ asUp seg i
+      → flatMap f (flatMap (upsAt seg) (range i (n - i)))
+      ≡ flatMap f (foundEdges r) ++ (flatMap f (flatMap (peerUp seg i) (range 0 (peerCountOf seg i))) ++ flatMap f (flatMap (upsAt seg) (range (i + 1) (n - (i + 1)))))
   unfolding upsAt
-  ups-both seg i r q =
-      flatMap-append f (asUp seg i) (flatMap (peerUp seg i) (range 0 (peerCountOf seg i)))
-      ∙ ap (λ l. flatMap f l ++ flatMap f (flatMap (peerUp seg i) (range 0 (peerCountOf seg i)))) (sym q)
+  ups-turn seg i n r h q =
+      let peers : List Edge = flatMap (peerUp seg i) (range 0 (peerCountOf seg i)) in
+      let rest : List (List Edge) = flatMap f (flatMap (upsAt seg) (range (i + 1) (n - (i + 1)))) in
+      each-turn (upsAt seg) i n h
+      ∙ ap (λ l. l ++ rest) (flatMap-append f (asUp seg i) peers ∙ ap (λ l. flatMap f l ++ flatMap f peers) (sym q))
+      ∙ append-assoc (flatMap f (foundEdges r)) (flatMap f peers) rest
+
+-- the chains that begin with an edge of a segment, by what the segment is
+
+module _ (b : List ℕ) (dst src : IsdAsn) (k : ℕ) where
+  -- what leaves the source, by the tests in order
+  leaving-by : (s t u : Bool) → eqb (entryCount (segmentAt b k)) 0 ≡ s → segmentAt b k .core ≡ t → sameAs (leafAs (segmentAt b k)) src ≡ u
+      → leavingIn (segmentAt b k) src
+      ≡ (if s then [] else if t then leavingOf (AS src) (segmentAt b k) else if u then flatMap (upsAt (segmentAt b k)) (range 0 (entryCount (segmentAt b k)))
+      else between (segmentAt b k) (AS src) (AS (leafAs (segmentAt b k))))
+  unfolding leavingIn
+  leaving-by s t u p q r = cc
+
+  pub in-empty : (n : ℕ) → n ≡ entryCount (segmentAt b k) → n ≡ 0 → chainsIn b dst src (segmentAt b k) ≡ []
+  unfolding chainsIn flatMap
+  in-empty n p q = ap (flatMap (chainsFrom b dst)) (leaving-by true _ _ (eq-eqb _ 0 (sym p ∙ q)) refl refl)
+
+  module _ (n : ℕ) (p : n ≡ entryCount (segmentAt b k)) (some : n ≡ 0 → ⊥) where
+    filled : eqb (entryCount (segmentAt b k)) 0 ≡ false
+    filled = ne-eqb _ 0 (λ q. some (p ∙ q))
+
+    pub in-core : (r : Found) → k < cores b → foundEdges r ≡ leavingOf (AS src) (segmentAt b k) → chainsIn b dst src (segmentAt b k) ≡ flatMap (chainsFrom b dst) (foundEdges r)
+    unfolding chainsIn
+    in-core r h q = ap (flatMap (chainsFrom b dst)) (leaving-by false true _ filled (core-at b k h) refl ∙ sym q)
+
+    module _ (h : cores b ≤ k) (leaf : IsdAsn) (e : leaf ≡ leafAs (segmentAt b k)) (u : Bool) (w : u ≡ sameAs leaf src) where
+      tested : sameAs (leafAs (segmentAt b k)) src ≡ u
+      tested = ap (λ a. sameAs a src) (sym e) ∙ sym w
+
+      pub in-leaf : (m : ℕ) → m ≡ n → u ≡ true → chainsIn b dst src (segmentAt b k) ≡ flatMap (chainsFrom b dst) (flatMap (upsAt (segmentAt b k)) (range 0 m))
+      unfolding chainsIn
+      in-leaf m i q =
+          ap (flatMap (chainsFrom b dst))
+          (leaving-by false false true filled (other-at b k h) (tested ∙ q) ∙ ap (λ j. flatMap (upsAt (segmentAt b k)) (range 0 j)) (sym (i ∙ p)))
+
+      pub in-other : (r : Found) → u ≡ false → foundEdges r ≡ between (segmentAt b k) (AS src) (AS leaf)
+          → chainsIn b dst src (segmentAt b k) ≡ flatMap (chainsFrom b dst) (foundEdges r)
+      unfolding chainsIn
+      in-other r q i =
+          ap (flatMap (chainsFrom b dst))
+          (leaving-by false false false filled (other-at b k h) (tested ∙ q) ∙ ap (λ a. between (segmentAt b k) (AS src) (AS a)) (sym e) ∙ sym i)
+
+-- ---- all
+
+module _ (b : List ℕ) (dst src : IsdAsn) (t : Bool) (p : t ≡ sameAs src dst) where
+  pub found-none : t ≡ true → foundChains b dst src ≡ []
+  unfolding foundChains
+  found-none q = ap (λ s. if s then [] else overFirsts (chainsIn b dst src) b 0 (segmentCount b)) (sym p ∙ q)
+
+  pub found-all : (n : ℕ) → t ≡ false → n ≡ segmentCount b → foundChains b dst src ≡ overFirsts (chainsIn b dst src) b 0 n
+  unfolding foundChains
+  found-all n q e = ap (λ s. if s then [] else overFirsts (chainsIn b dst src) b 0 (segmentCount b)) (sym p ∙ q) ∙ ap (overFirsts (chainsIn b dst src) b 0) (sym e)

@@ -63,7 +63,11 @@ fn two(e: Edge, f: Edge) -> Solution
 fn three(e: Edge, f: Edge, g: Edge) -> Solution
     ensures { λ r. ⌜ r ≡ solutionOf (e ∷ f ∷ g ∷ []) ⌝ }
 {
-    Solution::new(weight(e) + weight(f) + weight(g), 3, [edge(e), edge(f), edge(g)])
+    Solution::new(
+        weight(e) + weight(f) + weight(g),
+        3,
+        [edge(e), edge(f), edge(g)],
+    )
 }
 
 fn octets_of(s: Solution) -> [u8; Solution::SIZE]

@@ -2,25 +2,15 @@
 -- Assumes nothing.
 use native.Mathlib.Omega.{arith}
 use Rattle.graph.proofs.PushedTurns.{pushes-as, pushes-none}
-use Rattle.graph.proofs.SearchTurns.{across-found, across-nothing}
+use Rattle.graph.proofs.SearchTurns.{core-at, across-found, across-nothing}
 use borrow.Author.Needs.{needs}
 use Rattle.graph.proofs.search.across_in.Statement.{statement}
 use Rattle.graph.proofs.search.across_in.Tie as tie
 
 core-leaving-requires : tie.Need-core-leaving-requires
-core-leaving-requires c κs = search needs
-
-enum-known-found : tie.Need-enum-known-found
-enum-known-found c = search needs
-
-across-with-requires : tie.Need-across-with-requires
-across-with-requires c κs = search needs
-
-enum-told : tie.Need-enum-told
-enum-told c = search needs
-
-same-length : tie.Need-same-length
-same-length c = search needs
+core-leaving-requires c κs =
+    let p = c .before .before .pre in
+    (p .0 .ready, (omega arith, core-at _ _ (omega arith)))
 
 returns : tie.Need-returns
 returns c =
@@ -38,9 +28,9 @@ across-in-spec =
     tie.close
     (tie.spec
     core-leaving-requires
-    enum-known-found
-    across-with-requires
-    enum-told
-    same-length
+    (λ c. search needs)
+    (λ c κs. search needs)
+    (λ c. search needs)
+    (λ c. search needs)
     returns
     returns-2)

@@ -7,21 +7,6 @@ use borrow.Author.Needs.{needs}
 use Rattle.graph.proofs.search.pair_in.Statement.{statement}
 use Rattle.graph.proofs.search.pair_in.Tie as tie
 
-between-requires : tie.Need-between-requires
-between-requires c κs = search needs
-
-enum-known-found : tie.Need-enum-known-found
-enum-known-found c = search needs
-
-push-two-requires : tie.Need-push-two-requires
-push-two-requires c κs = search needs
-
-enum-told : tie.Need-enum-told
-enum-told c = search needs
-
-same-length : tie.Need-same-length
-same-length c = search needs
-
 returns : tie.Need-returns
 returns c =
     pushes-as (c .before .before .push-two .ensures)
@@ -34,10 +19,10 @@ pub pair-in-spec : {M : Type 1} → statement M
 pair-in-spec =
     tie.close
     (tie.spec
-    between-requires
-    enum-known-found
-    push-two-requires
-    enum-told
-    same-length
+    (λ c κs. search needs)
+    (λ c. search needs)
+    (λ c κs. search needs)
+    (λ c. search needs)
+    (λ c. search needs)
     returns
     returns-2)

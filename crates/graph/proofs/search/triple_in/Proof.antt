@@ -7,21 +7,6 @@ use borrow.Author.Needs.{needs}
 use Rattle.graph.proofs.search.triple_in.Statement.{statement}
 use Rattle.graph.proofs.search.triple_in.Tie as tie
 
-between-requires : tie.Need-between-requires
-between-requires c κs = search needs
-
-enum-known-found : tie.Need-enum-known-found
-enum-known-found c = search needs
-
-push-three-requires : tie.Need-push-three-requires
-push-three-requires c κs = search needs
-
-enum-told : tie.Need-enum-told
-enum-told c = search needs
-
-same-length : tie.Need-same-length
-same-length c = search needs
-
 returns : tie.Need-returns
 returns c = pushes-as (c .before .before .push-three .ensures)
     (triple-found _ _ _ _ _ _ _ (omega arith) (c .before .before .before .before .before .before .before .between .ensures) (c .before .before .before .before .before .found .given .1))
@@ -33,10 +18,10 @@ pub triple-in-spec : {M : Type 1} → statement M
 triple-in-spec =
     tie.close
     (tie.spec
-    between-requires
-    enum-known-found
-    push-three-requires
-    enum-told
-    same-length
+    (λ c κs. search needs)
+    (λ c. search needs)
+    (λ c κs. search needs)
+    (λ c. search needs)
+    (λ c. search needs)
     returns
     returns-2)

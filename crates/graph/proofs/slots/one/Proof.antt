@@ -9,21 +9,6 @@ use borrow.Author.Needs.{needs}
 use Rattle.graph.proofs.slots.one.Statement.{statement}
 use Rattle.graph.proofs.slots.one.Tie as tie
 
-weight-requires : tie.Need-weight-requires
-weight-requires c κs = search needs
-
-edge-requires : tie.Need-edge-requires
-edge-requires c κs = search needs
-
-no-edge-requires : tie.Need-no-edge-requires
-no-edge-requires c κs = search needs
-
-no-edge-requires-2 : tie.Need-no-edge-requires-2
-no-edge-requires-2 c κs = search needs
-
-new-requires : tie.Need-new-requires
-new-requires c κs = search needs
-
 returns : tie.Need-returns
 unfolding cost sum weightOf
 returns c = solution-is _ _ _ _ _ (c .new .ensures) (omega arith) refl (cc)
@@ -32,9 +17,9 @@ pub one-spec : {M : Type 1} → statement M
 one-spec =
     tie.close
     (tie.spec
-    weight-requires
-    edge-requires
-    no-edge-requires
-    no-edge-requires-2
-    new-requires
+    (λ c κs. search needs)
+    (λ c κs. search needs)
+    (λ c κs. search needs)
+    (λ c κs. search needs)
+    (λ c κs. search needs)
     returns)

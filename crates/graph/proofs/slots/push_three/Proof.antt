@@ -6,17 +6,8 @@ use borrow.Author.Needs.{needs}
 use Rattle.graph.proofs.slots.push_three.Statement.{statement}
 use Rattle.graph.proofs.slots.push_three.Tie as tie
 
-three-requires : tie.Need-three-requires
-three-requires c κs = search needs
-
-push-requires : tie.Need-push-requires
-push-requires c κs = search needs
-
-same-length : tie.Need-same-length
-same-length c = search needs
-
 returns : tie.Need-returns
 returns c = pushes-one _ _ _ _ _ _ _ (c .before .before .push .ensures) (c .before .before .before .three .ensures) (omega arith) (omega arith)
 
 pub push-three-spec : {M : Type 1} → statement M
-push-three-spec = tie.close (tie.spec three-requires push-requires same-length returns)
+push-three-spec = tie.close (tie.spec (λ c κs. search needs) (λ c κs. search needs) (λ c. search needs) returns)

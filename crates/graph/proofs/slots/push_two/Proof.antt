@@ -6,17 +6,8 @@ use borrow.Author.Needs.{needs}
 use Rattle.graph.proofs.slots.push_two.Statement.{statement}
 use Rattle.graph.proofs.slots.push_two.Tie as tie
 
-two-requires : tie.Need-two-requires
-two-requires c κs = search needs
-
-push-requires : tie.Need-push-requires
-push-requires c κs = search needs
-
-same-length : tie.Need-same-length
-same-length c = search needs
-
 returns : tie.Need-returns
 returns c = pushes-one _ _ _ _ _ _ _ (c .before .before .push .ensures) (c .before .before .before .two .ensures) (omega arith) (omega arith)
 
 pub push-two-spec : {M : Type 1} → statement M
-push-two-spec = tie.close (tie.spec two-requires push-requires same-length returns)
+push-two-spec = tie.close (tie.spec (λ c κs. search needs) (λ c κs. search needs) (λ c. search needs) returns)

@@ -9,27 +9,6 @@ use borrow.Author.Needs.{needs}
 use Rattle.graph.proofs.slots.two.Statement.{statement}
 use Rattle.graph.proofs.slots.two.Tie as tie
 
-weight-requires : tie.Need-weight-requires
-weight-requires c κs = search needs
-
-weight-requires-2 : tie.Need-weight-requires-2
-weight-requires-2 c κs = search needs
-
-add-new : tie.Need-add-new
-add-new c = search needs
-
-edge-requires : tie.Need-edge-requires
-edge-requires c κs = search needs
-
-edge-requires-2 : tie.Need-edge-requires-2
-edge-requires-2 c κs = search needs
-
-no-edge-requires : tie.Need-no-edge-requires
-no-edge-requires c κs = search needs
-
-new-requires : tie.Need-new-requires
-new-requires c κs = search needs
-
 returns : tie.Need-returns
 unfolding cost sum weightOf
 returns c = solution-is _ _ _ _ _ (c .new .ensures) (omega arith) refl (cc)
@@ -38,11 +17,11 @@ pub two-spec : {M : Type 1} → statement M
 two-spec =
     tie.close
     (tie.spec
-    weight-requires
-    weight-requires-2
-    add-new
-    edge-requires
-    edge-requires-2
-    no-edge-requires
-    new-requires
+    (λ c κs. search needs)
+    (λ c κs. search needs)
+    (λ c. search needs)
+    (λ c κs. search needs)
+    (λ c κs. search needs)
+    (λ c κs. search needs)
+    (λ c κs. search needs)
     returns)
