@@ -1,4 +1,6 @@
 pub mod Lookup
 pub mod Leaving
+pub mod Ready
+pub mod Prepared
 pub mod Search
 pub mod Pushed
