@@ -1,4 +1,5 @@
 pub mod Lookup
 pub mod Leaving
+pub mod Scan
 pub mod Search
 pub mod Pushed
