@@ -1,1 +1,2 @@
 pub mod LookupScan
+pub mod LookupLaws
