@@ -1,2 +1,3 @@
 pub mod LookupScan
 pub mod LookupLaws
+pub mod LeavingLaws

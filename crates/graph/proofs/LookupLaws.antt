@@ -24,7 +24,7 @@ use Rattle.spec.proofs.Lists.{reverse-range}
 use Rattle.spec.proofs.Vertices.{sameAs-eq, sameAs-refl, sameVertex-eq, sameVertex-refl, eq-sameVertex}
 use Rattle.graph.specs.Lookup.{hasEnds, between, leavingOf}
 use Rattle.graph.specs.Leaving.{entryCount, peerCountOf, linkOf, isEntryOf, isLink, hasLink}
-use Rattle.graph.specs.Scan.{firstWith, lastWith, entryWith, entryLinked, peerLinked, asEdgeAt, peerEdgeAt}
+use Rattle.graph.specs.Scan.{firstWith, lastWith, joins, entryWith, entryLinked, peerLinked, asEdgeAt, peerEdgeAt, coreEdge, coreEdgeFrom}
 use Rattle.graph.proofs.LookupScan.{when, orElse, orElse-nil, orElse-first, lastBy, last-append, last-two, last-one, last-none, last-some, last-entries, last-peers, any-last}
 
 -- ---- tests
@@ -301,10 +301,10 @@ module _ (seg : Segment) where
 
     -- edges with ends that only the AS edges of the entries of one AS have
     module _ (v w : Vertex) (a : IsdAsn)
-             (up : (i : ℕ) → hasEnds v w (up-edge i) ≡ true → sameAs (asOf seg i) a ≡ true)
-             (down : (i : ℕ) → hasEnds v w (down-edge i) ≡ true → sameAs (asOf seg i) a ≡ true)
-             (hit : (i : ℕ) → sameAs (asOf seg i) a ≡ true → (hasEnds v w (up-edge i) || hasEnds v w (down-edge i)) ≡ true)
-             (none : (i : ℕ) → any (hasEnds v w) (flatMap (peerInsertions seg i) (range 0 (peerCountOf seg i))) ≡ false) where
+        (up : (i : ℕ) → hasEnds v w (up-edge i) ≡ true → sameAs (asOf seg i) a ≡ true)
+        (down : (i : ℕ) → hasEnds v w (down-edge i) ≡ true → sameAs (asOf seg i) a ≡ true)
+        (hit : (i : ℕ) → sameAs (asOf seg i) a ≡ true → (hasEnds v w (up-edge i) || hasEnds v w (down-edge i)) ≡ true)
+        (none : (i : ℕ) → any (hasEnds v w) (flatMap (peerInsertions seg i) (range 0 (peerCountOf seg i))) ≡ false) where
       abbrev as-edge : ℕ → Edge
       as-edge i = edgeOf seg v w (entryCount seg - 1 - i) i 0
 
@@ -357,8 +357,8 @@ module _ (seg : Segment) where
 
     -- edges with ends that only one of the two edges of a peer has, where the peer has a peering end
     module _ (v w l : Vertex) (weight : ℕ → ℕ)
-             (hit : (i p : ℕ) → lastBy (hasEnds v w) (peerInsertions seg i p) ≡ when (isLink seg l i p) (edgeOf seg v w (weight i) i (suc p)))
-             (none : (i : ℕ) → any (hasEnds v w) (asInsertions seg i) ≡ false) where
+        (hit : (i p : ℕ) → lastBy (hasEnds v w) (peerInsertions seg i p) ≡ when (isLink seg l i p) (edgeOf seg v w (weight i) i (suc p)))
+        (none : (i : ℕ) → any (hasEnds v w) (asInsertions seg i) ≡ false) where
       abbrev peer-edge : ℕ → Edge
       peer-edge i = edgeOf seg v w (weight i) i (peerLinked seg l i)
 
@@ -439,3 +439,101 @@ module _ (seg : Segment) where
         (none-as (hasEnds v w) (λ i r. p (edge-between v w _ _ _ _ _ r .0)) (λ i r. q (edge-between v w _ _ _ _ _ r .1)))
         (none-peers (hasEnds v w) (λ i j r. p (edge-between v w _ _ _ _ _ r .0)) (λ i j r. q (edge-between v w _ _ _ _ _ r .1)))
         (reverse (range 0 (entryCount seg))))
+
+  -- ---- a core segment
+
+  abbrev there : Edge
+  there = edgeOf seg (AS (asOf seg 0)) leaf (entryCount seg - 1) 0 0
+
+  abbrev back : Edge
+  back = edgeOf seg leaf (AS (asOf seg 0)) (entryCount seg - 1) 0 0
+
+  joins-ends : (a c : IsdAsn) → joins (asOf seg 0) (leafAs seg) a c ≡ (hasEnds (AS a) (AS c) there || hasEnds (AS a) (AS c) back)
+  unfolding joins hasEnds edgeOf sameVertex
+  joins-ends a c = refl
+
+  one-as : AS (asOf seg 0) ≡ leaf → there ≡ back
+  one-as q = ap₂ (λ v w. edgeOf seg v w (entryCount seg - 1) 0 0) q (sym q)
+
+  both-ends : any (sameEnds there) (back ∷ []) ≡ true → AS (asOf seg 0) ≡ leaf
+  unfolding any sameEnds edgeOf
+  both-ends q = go (sameVertex (AS (asOf seg 0)) leaf) refl q
+    where
+      go : (x : Bool) → sameVertex (AS (asOf seg 0)) leaf ≡ x → (x && sameVertex leaf (AS (asOf seg 0)) || false) ≡ true → AS (asOf seg 0) ≡ leaf
+      go true r q = sameVertex-eq _ _ r
+      go false r q = not-both q refl
+
+  ends-both : AS (asOf seg 0) ≡ leaf → any (sameEnds there) (back ∷ []) ≡ true
+  unfolding any sameEnds edgeOf
+  ends-both q = ap₂ (λ x y. x && y || false) (eq-sameVertex _ _ q) (eq-sameVertex _ _ (sym q))
+
+  -- what is left of the two
+  abbrev left : Bool → Bool → Bool → List Edge
+  left x y z = if x then when z back else if y then there ∷ when z back else when z back
+
+  module _ (core : seg .core ≡ true) (full : entryCount seg ≡ 0 → ⊥) where
+    insertions-core : insertions seg ≡ there ∷ back ∷ []
+    unfolding insertions coreInsertions entryCount
+    insertions-core =
+        ap (λ x. if x then coreInsertions seg else flatMap (entryInsertions seg) (reverse (range 0 (length (seg .entries))))) core
+        ∙ ap (λ x. if x then [] else there ∷ back ∷ []) (ne-eqb (length (seg .entries)) 0 full)
+
+    core-last : (v w : Vertex) → between seg v w ≡ lastBy (hasEnds v w) (there ∷ back ∷ [])
+    core-last v w = between-last v w seg ∙ ap (lastBy (hasEnds v w)) insertions-core
+
+    pub core-as : (a c : IsdAsn) → between seg (AS a) (AS c) ≡ coreEdge seg a c
+    unfolding coreEdge
+    core-as a c =
+        core-last (AS a) (AS c)
+        ∙ pick-two (hasEnds (AS a) (AS c)) there back (edgeOf seg (AS a) (AS c) (entryCount seg - 1) 0 0) (joins (asOf seg 0) (leafAs seg) a c)
+        (λ q. (edge-ends (AS a) (AS c) _ _ _ _ _ q, joins-ends a c ∙ ap (λ x. x || hasEnds (AS a) (AS c) back) q))
+        (λ q. (edge-ends (AS a) (AS c) _ _ _ _ _ q, joins-ends a c ∙ or-true (hasEnds (AS a) (AS c) there) (hasEnds (AS a) (AS c) back) q))
+        (λ q. sym (joins-ends a c) ∙ q)
+
+    pub core-peering : (local peer : IsdAsn) (ingress interface : ℕ) (w : Vertex) → between seg (Peering local ingress peer interface) w ≡ []
+    core-peering local peer ingress interface w =
+        let v : Vertex = Peering local ingress peer interface in
+        core-last v w
+        ∙ last-none (hasEnds v w) (there ∷ back ∷ [])
+        (none-two (hasEnds v w) there back
+        (λ q. as-not-peering (edge-between v w _ _ _ _ _ q .0))
+        (λ q. as-not-peering (edge-between v w _ _ _ _ _ q .0)))
+
+    pub core-leaving : (v : Vertex) → leavingOf v seg ≡ coreEdgeFrom seg v
+    unfolding leavingOf storedOf coreEdgeFrom filter lasting leaves edgeOf any
+    core-leaving v =
+        ap (λ l. filter (leaves v) (lasting l)) insertions-core
+        ∙ kept (any (sameEnds there) (back ∷ []))
+        ∙ go (any (sameEnds there) (back ∷ [])) (sameVertex (AS (asOf seg 0)) v) (sameVertex leaf v)
+        (λ q. (one-as (both-ends q), ap (λ u. sameVertex u v) (both-ends q)))
+        (λ q r. ends-both (sameVertex-eq _ _ q ∙ sym (sameVertex-eq _ _ r)))
+      where
+        kept : (x : Bool) → filter (leaves v) (if x then back ∷ [] else there ∷ back ∷ []) ≡ left x (sameVertex (AS (asOf seg 0)) v) (sameVertex leaf v)
+        kept true = refl
+        kept false = refl
+
+        go : (x y z : Bool) → (x ≡ true → (there ≡ back) × (y ≡ z)) → (y ≡ true → z ≡ true → x ≡ true)
+            → left x y z ≡ (if y then there ∷ [] else if z then back ∷ [] else [])
+        go true true true p q = ap (λ e. e ∷ []) (sym (p refl .0))
+        go true true false p q = not-both refl (p refl .1)
+        go true false true p q = not-both (p refl .1) refl
+        go true false false p q = refl
+        go false true true p q = not-both (q refl refl) refl
+        go false true false p q = refl
+        go false false z p q = refl
+
+  -- ---- a segment with no entries
+
+  core-none : seg .core ≡ true → entryCount seg ≡ 0 → insertions seg ≡ []
+  unfolding insertions coreInsertions entryCount
+  core-none core h =
+      ap (λ x. if x then coreInsertions seg else flatMap (entryInsertions seg) (reverse (range 0 (length (seg .entries))))) core
+      ∙ ap (λ x. if x then [] else there ∷ back ∷ []) (eq-eqb (length (seg .entries)) 0 h)
+
+  pub none-stored : entryCount seg ≡ 0 → storedOf seg ≡ []
+  unfolding storedOf
+  none-stored h = ap lasting (none (seg .core) refl) ∙ unfold lasting in refl
+    where
+      none : (x : Bool) → seg .core ≡ x → insertions seg ≡ []
+      none true q = core-none q h
+      none false q = insertions-other q ∙ ap (λ n. flatMap (entryInsertions seg) (reverse (range 0 n))) h ∙ unfold range flatMap in refl
