@@ -1,8 +1,11 @@
+pub mod LookupScan
+pub mod LookupLaws
+pub mod LeavingLaws
 pub mod SearchLists
 pub mod SearchLaws
 pub mod SearchFound
+pub mod SearchTurns
+pub mod SearchBounds
 pub mod PushedLaws
 pub mod PushedRecords
 pub mod PushedTurns
-pub mod SearchTurns
-pub mod SearchBounds

@@ -17,12 +17,14 @@ use Rattle.spec.specs.Edges.{sameAs, sameVertex, insertions, isFirst, firsts, s
 use Rattle.spec.specs.Chains.{IsChain, allowedKinds, leaves, leaving, beginning, walks, chains}
 use Rattle.spec.specs.Order.{compareChains, isLt, insert, insertAll, solutions}
 use Rattle.spec.proofs.Membership.{filter-mem, map-mem, flatMap-mem, mem-flatMap, once-filter, once-map, once-flatMap}
-use Rattle.spec.proofs.ChainLaws.{chains-sound, chains-complete}
+use Rattle.spec.proofs.ChainLaws.{allowed-length, chains-sound, chains-complete}
 use Rattle.spec.proofs.OnceLaws.{inserted, lasting-mem, segment-position, same-position, once-range, once-stored, once-walks}
 use Rattle.spec.proofs.OrderLaws.{sorted-any}
 use Rattle.graph.specs.Lookup.{leavingOf}
 use Rattle.graph.specs.Leaving.{leavingIn}
 use Rattle.graph.specs.Search.{overFirsts, chainsFrom, chainsIn, foundChains}
+use Rattle.graph.proofs.LeavingLaws.{leaving-once, leaving-mem, mem-leaving}
+use Rattle.graph.proofs.PushedLaws.{Sized}
 use Rattle.graph.proofs.SearchLists.{filter-append, through, flatMap-twice}
 use Rattle.graph.proofs.SearchLaws.{over-firsts, leaving-over}
 
@@ -78,9 +80,7 @@ module _ (b : List ℕ) (dst : IsdAsn) where
       go true k = ([], ⊎-elim (λ q. q) (λ l. absurd (not-nil l)) (cases-cons k))
       go false k = let w = map-mem (λ es. e ∷ es) (walks 2 (storedEdges b) (AS dst) (e .dst)) k in (w .0, w .2)
 
-  module _ (src : IsdAsn) (once : (seg : Segment) → Once (leavingIn seg src))
-      (into : (seg : Segment) (e : Edge) → Mem e (leavingIn seg src) → Mem e (leavingOf (AS src) seg))
-      (back : (seg : Segment) (e : Edge) → Mem e (leavingOf (AS src) seg) → Mem e (leavingIn seg src)) where
+  module _ (src : IsdAsn) where
     abbrev here : Segment → List Edge
     here seg = leavingIn seg src
 
@@ -89,9 +89,9 @@ module _ (b : List ℕ) (dst : IsdAsn) where
 
     starts-once : Once starts
     starts-once =
-        once-flatMap here once (firsts (segments b)) (once-firsts b)
+        once-flatMap here (λ seg. leaving-once seg src) (firsts (segments b)) (once-firsts b)
         (λ x y k l e p q.
-        same-position b x y (first-mem b k) (first-mem b l) (sym (leaving-position src x (into x e p)) ∙ leaving-position src y (into y e q)))
+        same-position b x y (first-mem b k) (first-mem b l) (sym (leaving-position src x (leaving-mem x src p)) ∙ leaving-position src y (leaving-mem y src q)))
 
     -- by edges that leave the source, as the search lists them and as the definitions do
     found-from : sameAs src dst ≡ false → foundChains b dst src ≡ flatMap (chainsFrom b dst) starts
@@ -139,7 +139,7 @@ module _ (b : List ℕ) (dst : IsdAsn) where
       where
         go : (t : Bool) → sameAs src dst ≡ t → Mem c (chains b src dst)
         go true q = absurd (not-nil (subst (Mem c) (none-found q) m))
-        go false q = subst (Mem c) (sym (chains-from q)) (swap here (leavingOf (AS src)) into c (subst (Mem c) (found-from q) m))
+        go false q = subst (Mem c) (sym (chains-from q)) (swap here (leavingOf (AS src)) (λ seg e k. leaving-mem seg src k) c (subst (Mem c) (found-from q) m))
 
     pub found-complete : (c : List Edge) → IsChain b src dst c → Mem c (foundChains b dst src)
     found-complete c h = go (sameAs src dst) refl
@@ -149,7 +149,7 @@ module _ (b : List ℕ) (dst : IsdAsn) where
 
         go : (t : Bool) → sameAs src dst ≡ t → Mem c (foundChains b dst src)
         go true q = absurd (not-nil (subst (Mem c) (no-chains q) m))
-        go false q = subst (Mem c) (sym (found-from q)) (swap (leavingOf (AS src)) here back c (subst (Mem c) (chains-from q) m))
+        go false q = subst (Mem c) (sym (found-from q)) (swap (leavingOf (AS src)) here (λ seg e k. mem-leaving seg src k) c (subst (Mem c) (chains-from q) m))
 
     -- in order they are the solutions
     pub found-sorted : (digest : List ℕ → List ℕ) → insertAll digest b [] (foundChains b dst src) ≡ solutions digest b src dst
@@ -157,3 +157,7 @@ module _ (b : List ℕ) (dst : IsdAsn) where
 
     pub found-length : (digest : List ℕ → List ℕ) → length (foundChains b dst src) ≡ length (solutions digest b src dst)
     found-length digest = omega (arith, length-all digest b [] (foundChains b dst src), ap length (found-sorted digest))
+
+    -- so that each has a record of one size
+    pub found-sized : Sized (foundChains b dst src)
+    found-sized c m = allowed-length c (found-sound c m .kinds)

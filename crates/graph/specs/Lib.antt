@@ -1,5 +1,6 @@
 pub mod Lookup
 pub mod Leaving
+pub mod Scan
 pub mod Ready
 pub mod Prepared
 pub mod Search
