@@ -1,13 +1,14 @@
 -- `entry_end` meets its contract.
 -- Assumes nothing.
+use native.Mathlib.Omega.{arith}
 use Rattle.spec.specs.Book.{entryEnd}
 use borrow.Author.Needs.{needs}
-use Rattle.segment.proofs.answer.entry_end.Statement.{statement}
-use Rattle.segment.proofs.answer.entry_end.Tie as tie
+use Rattle.segment.proofs.entries.entry_end.Statement.{statement}
+use Rattle.segment.proofs.entries.entry_end.Tie as tie
 
 returns : tie.Need-returns
 unfolding entryEnd
-returns c = cc
+returns c = (cc, omega arith)
 
 pub entry-end-spec : {M : Type 1} → statement M
 entry-end-spec =

@@ -2,8 +2,8 @@
 -- Assumes nothing.
 use Rattle.spec.specs.Book.{peerCount}
 use borrow.Author.Needs.{needs}
-use Rattle.segment.proofs.answer.peer_count.Statement.{statement}
-use Rattle.segment.proofs.answer.peer_count.Tie as tie
+use Rattle.segment.proofs.entries.peer_count.Statement.{statement}
+use Rattle.segment.proofs.entries.peer_count.Tie as tie
 
 returns : tie.Need-returns
 unfolding peerCount
