@@ -7,6 +7,7 @@ use mathlib.Core.Bool.{Bool, true, false}
 use mathlib.Core.List.{List, [], _∷_, _++_, flatMap}
 use lib.ListN.{length, drop}
 use lib.Dec.{ltb}
+use Rattle.spec.specs.declared.IsdAsn.{IsdAsn}
 use Rattle.spec.specs.declared.InfoField.{InfoField}
 use Rattle.spec.specs.declared.PathInterface.{PathInterface}
 use Rattle.spec.specs.declared.Edge.{Edge}
@@ -16,13 +17,13 @@ use Rattle.spec.specs.declared.PathAnswer.the-variants.{Path, Loop, Bare
 use Rattle.spec.specs.declared.Refusal.the-variants.{Cut, Full}
 use Rattle.spec.specs.declared.Verdict.{Verdict}
 use Rattle.spec.specs.declared.Verdict.the-variants.{Accepted, Refused}
-use Rattle.spec.specs.Limits.{maxSlots}
+use Rattle.spec.specs.Limits.{maxSlots, pathSize}
 use Rattle.spec.specs.Basics.{if_then_else_, filter}
 use Rattle.spec.specs.Book.{verdict, isdAsnAt}
 use Rattle.spec.specs.Order.{cost, solutions}
 use Rattle.spec.specs.Assembly.{CombinedPath, combinedPath, outcome}
-use Rattle.spec.specs.Records.{bit}
-use Rattle.spec.specs.Answers.{refusalNumber}
+use Rattle.spec.specs.Records.{bit, solutionOctets}
+use Rattle.spec.specs.Answers.{refusalNumber, assembly}
 
 -- ---- text
 
@@ -99,6 +100,10 @@ isPath (RefusedPath r) = false
 
 unfoldable pub hasPath : List ℕ → List Edge → Bool
 hasPath b c = isPath (outcome (combinedPath b c))
+
+-- assembly of the chain's record, into a buffer that holds any path, answers a path
+unfoldable pub assembles : List ℕ → IsdAsn → IsdAsn → List Edge → Bool
+assembles b src dst c = isPath (assembly b src dst (solutionOctets c) pathSize .0)
 
 -- a refusal prints its number
 unfoldable pub refusedLine : Refusal → List ℕ
