@@ -9,3 +9,4 @@ pub mod SearchBounds
 pub mod PushedLaws
 pub mod PushedRecords
 pub mod PushedTurns
+pub mod ListLaws
