@@ -1,5 +1,7 @@
 pub mod Lookup
 pub mod Leaving
 pub mod Scan
+pub mod Ready
+pub mod Link
 pub mod Search
 pub mod Pushed
