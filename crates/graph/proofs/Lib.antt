@@ -1,4 +1,4 @@
 pub mod LookupScan
 pub mod LookupLaws
-pub mod LookupReads
 pub mod LeavingLaws
+pub mod LookupReads

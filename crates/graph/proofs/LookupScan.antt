@@ -337,8 +337,8 @@ module _ (p : ℕ → Bool) (n : ℕ) where
       end : firstWith p i 0 ≡ i
       end = unfold firstWith in refl
 
-  pub sink-start : Sinking p n n
-  sink-start = record { within = omega arith; same = refl }
+  pub sink-start : (j : ℕ) → j ≡ n → Sinking p n j
+  sink-start j q = record { within = omega arith; same = ap (lastWith p) (sym q) }
 
   pub sink-stop : (j : ℕ) → Sinking p n j → 0 < j → p (j - 1) ≡ true → j ≡ lastWith p n
   sink-stop j s l h = let e : j ≡ suc (j - 1) = omega arith in sym (s .same ∙ ap (lastWith p) e ∙ last-stop p (j - 1) h ∙ sym e)

@@ -1,7 +1,7 @@
 // The stored edges of one segment, worked out of the book where it lies: what it stores between two
 // vertices, and what it stores that leaves one.
 ghost use mathlib.Core.Path.{_≡_};
-ghost use mathlib.Core.Bool.{true, false};
+ghost use mathlib.Core.Bool.{true, false, _&&_};
 ghost use Prim.Native.Nat.{_+_, _*_, _-_, _^_, _≤_, _<_};
 ghost use lib.ListN.{getD};
 ghost use Rattle.spec.specs.declared.Vertex.the-variants.{AS};
@@ -32,6 +32,29 @@ pub(crate) fn same_as(a: IsdAsn, b: IsdAsn) -> bool
     a.0 == b.0
 }
 
+// A peering link from one side: the AS and the interface there, and those of the other side.
+struct Link {
+    local: IsdAsn,
+    ingress: u16,
+    peer: IsdAsn,
+    interface: u16,
+}
+
+fn same_link(a: Link, b: Link) -> bool
+    ensures { λ r. ⌜ r ≡ sameVertex (endOf a) (endOf b) ⌝ }
+{
+    if a.ingress != b.ingress {
+        return false;
+    }
+    if a.interface != b.interface {
+        return false;
+    }
+    if !same_as(a.local, b.local) {
+        return false;
+    }
+    same_as(a.peer, b.peer)
+}
+
 pub(crate) fn same_vertex(v: Vertex, w: Vertex) -> bool
     ensures { λ r. ⌜ r ≡ sameVertex v w ⌝ }
 {
@@ -57,7 +80,21 @@ pub(crate) fn same_vertex(v: Vertex, w: Vertex) -> bool
                 local_ifid: g,
                 peer_ia: q,
                 peer_ifid: h,
-            } => same_as(l, m) && i == g && same_as(p, q) && j == h,
+            } => {
+                let a = Link {
+                    local: l,
+                    ingress: i,
+                    peer: p,
+                    interface: j,
+                };
+                let b = Link {
+                    local: m,
+                    ingress: g,
+                    peer: q,
+                    interface: h,
+                };
+                same_link(a, b)
+            }
         },
     }
 }
@@ -133,14 +170,6 @@ fn find_as(book: &[u8], table: &[u16; PLACES], k: u8, a: IsdAsn, n: u8) -> u8
 
 // ---- peers
 
-// A peering link from one side: the AS and the interface there, and those of the other side.
-struct Link {
-    local: IsdAsn,
-    ingress: u16,
-    peer: IsdAsn,
-    interface: u16,
-}
-
 // The peer count is an entry's last byte.
 const PEER_COUNT: usize = AsEntry::SIZE - 1;
 
@@ -172,9 +201,13 @@ fn peer_offset(at: usize, p: u8) -> usize
 fn same_peer(book: &[u8], at: usize, link: Link) -> bool
     ensures { λ r. ⌜ r ≡ samePeer (peerEntryAt (now (book .entry)) at) link ⌝ }
 {
-    octets::be16_past(book, at, 13) == link.ingress
-        && octets::be16_past(book, at, 8) == link.interface
-        && same_as(segment::isd_asn(book, at), link.peer)
+    if octets::be16_past(book, at, 13) != link.ingress {
+        return false;
+    }
+    if octets::be16_past(book, at, 8) != link.interface {
+        return false;
+    }
+    same_as(segment::isd_asn(book, at), link.peer)
 }
 
 // One more than the last peer of entry i that has a link; 0 where none has.
@@ -351,10 +384,22 @@ fn from_leaf(
     Found::Nothing
 }
 
+fn both_same(a: IsdAsn, b: IsdAsn, c: IsdAsn, d: IsdAsn) -> bool
+    ensures { λ r. ⌜ r ≡ (sameAs a b && sameAs c d) ⌝ }
+{
+    if !same_as(a, b) {
+        return false;
+    }
+    same_as(c, d)
+}
+
 fn joins(first: IsdAsn, last: IsdAsn, a: IsdAsn, c: IsdAsn) -> bool
     ensures { λ r. ⌜ r ≡ joins first last a c ⌝ }
 {
-    same_as(first, a) && same_as(last, c) || same_as(last, a) && same_as(first, c)
+    if both_same(first, a, last, c) {
+        return true;
+    }
+    both_same(last, a, first, c)
 }
 
 fn core_between(
