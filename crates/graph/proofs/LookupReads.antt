@@ -17,7 +17,8 @@ use Rattle.spec.specs.declared.Head.{Head}
 use Rattle.spec.specs.declared.Verdict.the-variants.{Accepted}
 use Rattle.spec.specs.declared.Edge.{Edge}
 use Rattle.spec.specs.Limits.{maxSegments, maxEntries}
-use Rattle.spec.specs.Basics.{if_then_else_, any, range}
+use Rattle.spec.specs.Basics.{if_then_else_, any, filter, range}
+use Rattle.spec.specs.Octets.{be16}
 use Rattle.spec.specs.Book.{Segment, segmentAt, segmentCount, sizesAt, headAt, verdict, entryCountAt, isdAsnAt, peerCount, peerEntryAt, peerOffset}
 use Rattle.spec.specs.Edges.{sameAs, sameVertex, asOf, leafAs, peerOf, inConstruction, edgeOf}
 use Rattle.spec.proofs.Membership.{not-both}
@@ -28,13 +29,14 @@ use Rattle.segment.specs.Offsets.{offsetTable}
 use Rattle.segment.proofs.Fitting.{position-small}
 use Rattle.segment.proofs.Tables.{table-as, table-peers, table-peer}
 use Rattle.graph.specs.declared.edges.Link.{Link}
-use Rattle.graph.specs.Lookup.{between, leavingOf}
+use Rattle.spec.specs.Chains.{leaves}
+use Rattle.graph.specs.Lookup.{hasEnds, between, leavingOf}
 use Rattle.graph.specs.Leaving.{entryCount, peerCountOf, linkOf, isEntryOf, isLink, hasLink}
-use Rattle.graph.specs.Scan.{lastWith, entryWith, entryLinked, peerLinked, asEdgeAt, peerEdgeAt, downPeerEdge, coreEdge, coreEdgeFrom}
+use Rattle.graph.specs.Scan.{joins, firstWith, lastWith, entryWith, entryLinked, peerLinked, asEdgeAt, peerEdgeAt, downPeerEdge, coreEdge, coreEdgeFrom}
 use Rattle.graph.specs.Ready.{Ready, Filled}
 use Rattle.graph.specs.Link.{endOf, samePeer}
 use Rattle.graph.proofs.LookupScan.{when}
-use Rattle.graph.proofs.LookupLaws.{up-as, down-as, down-link, no-leaf, core-as, core-peering, core-leaving, as-eq, eq-sameAs, as-not-peering}
+use Rattle.graph.proofs.LookupLaws.{up-as, down-as, down-link, no-leaf, core-as, core-peering, core-leaving, none-stored, as-eq, eq-sameAs, as-not-peering}
 use Rattle.graph.proofs.LeavingLaws.{linked}
 
 pub count-read : (b : List ℕ) (k : ℕ) → entryCount (segmentAt b k) ≡ entryCountAt b k
@@ -45,6 +47,9 @@ count-read b k = segment-length b k
 pub leaf-is : (seg : Segment) → asOf seg (entryCount seg - 1) ≡ leafAs seg
 unfolding leafAs entryCount
 leaf-is seg = refl
+
+pub leaf-read : (seg : Segment) {x : IsdAsn} {n : ℕ} → n ≡ entryCount seg → x ≡ asOf seg (n - 1) → x ≡ leafAs seg
+leaf-read seg p q = q ∙ ap (λ m. asOf seg (m - 1)) p ∙ leaf-is seg
 
 module _ (b t : List ℕ) (r : Ready b t) (k : ℕ) (h : k < segmentCount b) where
   book : AcceptedBook b
@@ -82,6 +87,96 @@ swap-and true true false true q = refl
 swap-and true true false false q = refl
 swap-and true false d e q = refl
 swap-and false c d e q = not-both q refl
+
+-- tests of two links, in the order in which the code makes them
+second-fails : (x y z u : Bool) → y ≡ false → false ≡ (((x && y) && z) && u)
+second-fails true true z u q = not-both refl q
+second-fails true false z u q = refl
+second-fails false y z u q = refl
+
+fourth-fails : (x y z u : Bool) → u ≡ false → false ≡ (((x && y) && z) && u)
+fourth-fails true true true u q = sym q
+fourth-fails true true false u q = refl
+fourth-fails true false z u q = refl
+fourth-fails false y z u q = refl
+
+third-left : (x y z u : Bool) → x ≡ true → y ≡ true → u ≡ true → z ≡ (((x && y) && z) && u)
+third-left true true true true p q r = refl
+third-left true true false u p q r = refl
+third-left true true true false p q r = not-both r refl
+third-left true false z u p q r = not-both q refl
+third-left false y z u p q r = not-both p refl
+
+module _ (a c : Link) where
+  pub links-ingress : (a .ingress ≡ c .ingress → ⊥) → false ≡ sameVertex (endOf a) (endOf c)
+  unfolding sameVertex
+  links-ingress q = second-fails (sameAs (a .local) (c .local)) (eqb (a .ingress) (c .ingress)) (sameAs (a .peer) (c .peer)) (eqb (a .interface) (c .interface)) (ne-eqb _ _ q)
+
+  pub links-interface : (a .interface ≡ c .interface → ⊥) → false ≡ sameVertex (endOf a) (endOf c)
+  unfolding sameVertex
+  links-interface q = fourth-fails (sameAs (a .local) (c .local)) (eqb (a .ingress) (c .ingress)) (sameAs (a .peer) (c .peer)) (eqb (a .interface) (c .interface)) (ne-eqb _ _ q)
+
+  pub links-local : sameAs (a .local) (c .local) ≡ false → false ≡ sameVertex (endOf a) (endOf c)
+  unfolding sameVertex
+  links-local q = sym (ap (λ x. ((x && eqb (a .ingress) (c .ingress)) && sameAs (a .peer) (c .peer)) && eqb (a .interface) (c .interface)) q)
+
+  pub links-peer : a .ingress ≡ c .ingress → a .interface ≡ c .interface → sameAs (a .local) (c .local) ≡ true
+      → sameAs (a .peer) (c .peer) ≡ sameVertex (endOf a) (endOf c)
+  unfolding sameVertex
+  links-peer p q r = third-left (sameAs (a .local) (c .local)) (eqb (a .ingress) (c .ingress)) (sameAs (a .peer) (c .peer)) (eqb (a .interface) (c .interface)) r (eq-eqb _ _ p) (eq-eqb _ _ q)
+
+-- two vertices
+pub as-as : {v w : Vertex} {a c : IsdAsn} {u : Bool} → v ≡ AS a → w ≡ AS c → u ≡ sameAs a c → u ≡ sameVertex v w
+as-as {a = a} {c = c} p q s = s ∙ both a c ∙ ap₂ sameVertex (sym p) (sym q)
+  where
+    both : (a c : IsdAsn) → sameAs a c ≡ sameVertex (AS a) (AS c)
+    both a c = unfold sameVertex in refl
+
+pub as-peering : {v w : Vertex} {a l p : IsdAsn} {i j : ℕ} → v ≡ AS a → w ≡ Peering l i p j → false ≡ sameVertex v w
+as-peering {a = a} {l = l} {p = p} {i = i} {j = j} q s = apart a l p i j ∙ ap₂ sameVertex (sym q) (sym s)
+  where
+    apart : (a l p : IsdAsn) (i j : ℕ) → false ≡ sameVertex (AS a) (Peering l i p j)
+    apart a l p i j = unfold sameVertex in refl
+
+pub peering-as : {v w : Vertex} {a l p : IsdAsn} {i j : ℕ} → v ≡ Peering l i p j → w ≡ AS a → false ≡ sameVertex v w
+peering-as {a = a} {l = l} {p = p} {i = i} {j = j} q s = apart a l p i j ∙ ap₂ sameVertex (sym q) (sym s)
+  where
+    apart : (a l p : IsdAsn) (i j : ℕ) → false ≡ sameVertex (Peering l i p j) (AS a)
+    apart a l p i j = unfold sameVertex in refl
+
+-- the peer at an offset, test by test
+module _ (b : List ℕ) (at : ℕ) (l : Link) where
+  pub peer-ingress : {x : ℕ} → x ≡ be16 b (at + 13) → (x ≡ l .ingress → ⊥) → false ≡ samePeer (peerEntryAt b at) l
+  unfolding samePeer peerEntryAt
+  peer-ingress p q =
+      sym (ap (λ y. (y && eqb (be16 b (at + 8)) (l .interface)) && sameAs (isdAsnAt b at) (l .peer)) (ne-eqb _ _ (λ e. q (p ∙ e))))
+
+  pub peer-interface : {y : ℕ} → y ≡ be16 b (at + 8) → (y ≡ l .interface → ⊥) → false ≡ samePeer (peerEntryAt b at) l
+  unfolding samePeer peerEntryAt
+  peer-interface p q = go (eqb (be16 b (at + 13)) (l .ingress)) (eqb (be16 b (at + 8)) (l .interface)) (ne-eqb _ _ (λ e. q (p ∙ e)))
+    where
+      go : (x y : Bool) → y ≡ false → false ≡ ((x && y) && sameAs (isdAsnAt b at) (l .peer))
+      go true true h = not-both refl h
+      go true false h = refl
+      go false y h = refl
+
+  pub peer-same : {x y : ℕ} {a : IsdAsn} {u : Bool} → x ≡ be16 b (at + 13) → x ≡ l .ingress → y ≡ be16 b (at + 8) → y ≡ l .interface
+      → a ≡ isdAsnAt b at → u ≡ sameAs a (l .peer) → u ≡ samePeer (peerEntryAt b at) l
+  unfolding samePeer peerEntryAt
+  peer-same p q r s t w =
+      w
+      ∙ ap (λ c. sameAs c (l .peer)) t
+      ∙ sym (ap₂ (λ x y. (x && y) && sameAs (isdAsnAt b at) (l .peer)) (eq-eqb _ _ (sym p ∙ q)) (eq-eqb _ _ (sym r ∙ s)))
+
+-- two ASes and two others
+module _ (first last a c : IsdAsn) where
+  pub joins-first : {u : Bool} → u ≡ (sameAs first a && sameAs last c) → u ≡ true → true ≡ joins first last a c
+  unfolding joins
+  joins-first p q = sym (ap (λ x. x || (sameAs last a && sameAs first c)) (sym p ∙ q))
+
+  pub joins-second : {u v : Bool} → u ≡ (sameAs first a && sameAs last c) → u ≡ false → v ≡ (sameAs last a && sameAs first c) → v ≡ joins first last a c
+  unfolding joins
+  joins-second p q r = r ∙ sym (ap (λ x. x || (sameAs last a && sameAs first c)) (sym p ∙ q))
 
 module _ (seg : Segment) (l : Link) (i : ℕ) where
   -- a peer of an entry of the link's AS
@@ -127,8 +222,11 @@ pub entry-test : (seg : Segment) (a : IsdAsn) (i : ℕ) {x : IsdAsn} {u v : Bool
 unfolding isEntryOf
 entry-test seg a i p q s = ap (λ y. sameAs y a) (sym p) ∙ sym q ∙ s
 
-pub linked-test : (seg : Segment) (v : Vertex) (i : ℕ) {q : ℕ} {u : Bool} → q ≡ peerLinked seg v i → ltb 0 q ≡ u → hasLink seg v i ≡ u
-linked-test seg v i p s = linked seg v i ∙ ap (ltb 0) (sym p) ∙ s
+pub linked-yes : (seg : Segment) (v : Vertex) (i : ℕ) {q : ℕ} → q ≡ peerLinked seg v i → 0 < q → hasLink seg v i ≡ true
+linked-yes seg v i {q} p s = linked seg v i ∙ ap (ltb 0) (sym p) ∙ lt-ltb 0 q s
+
+pub linked-no : (seg : Segment) (v : Vertex) (i : ℕ) {q : ℕ} → q ≡ peerLinked seg v i → q ≤ 0 → hasLink seg v i ≡ false
+linked-no seg v i {q} p s = linked seg v i ∙ ap (ltb 0) (sym p) ∙ le-ltb 0 q s
 
 -- ---- sizes and heads
 
@@ -148,6 +246,22 @@ count-most b a k h = omega (arith, count-read b k, entry-count b (accepted b a) 
 module _ (b : List ℕ) (k : ℕ) where
   abbrev seg : Segment
   seg = segmentAt b k
+
+  -- the link of a peer, read at its place
+  pub link-read : (t : List ℕ) (r : Ready b t) (h : k < segmentCount b) (i : ℕ) (l : i < entryCount seg) (p : ℕ) (g : p < peerCountOf seg i)
+      → {o m : ℕ} {a c : IsdAsn} {x y : ℕ} → o ≡ getD t (maxEntries * k + i) 0 → m ≡ peerOffset o p
+      → a ≡ isdAsnAt b o → x ≡ be16 b (m + 13) → c ≡ isdAsnAt b m → y ≡ be16 b (m + 8) → Peering a x c y ≡ linkOf seg i p
+  unfolding linkOf peerEntryAt
+  link-read t r h i l p g {o = o} {m = m} eo em ea ex ec ey =
+      let read : peerEntryAt b m ≡ peerOf seg i p =
+      ap (peerEntryAt b) em ∙ ap (λ z. peerEntryAt b (peerOffset z p)) eo ∙ sym (peer-read b t r k h i l p g) in
+      link-of (ea ∙ ap (isdAsnAt b) eo ∙ sym (as-read b t r k h i l))
+      (ex ∙ ap (λ (z : PeerEntry). z .hop .ingress) read)
+      (ec ∙ ap (λ (z : PeerEntry). z .peer) read)
+      (ey ∙ ap (λ (z : PeerEntry). z .interface) read)
+    where
+      link-of : {a a′ c c′ : IsdAsn} {x x′ y y′ : ℕ} → a ≡ a′ → x ≡ x′ → c ≡ c′ → y ≡ y′ → Peering a x c y ≡ Peering a′ x′ c′ y′
+      link-of p q r s = cc
 
   -- an edge of the segment, as the code makes it
   abbrev pub made : Vertex → Vertex → ℕ → ℕ → ℕ → Bool → Bool → Edge
@@ -237,3 +351,61 @@ module _ (seg : Segment) (w : IsdAsn) where
 
       pub from-none : (v : Vertex) → (AS (leafAs seg) ≡ v → ⊥) → [] ≡ between seg v (AS w)
       from-none v f = sym (no-leaf seg nc v (AS w) f (λ q. not-both (eq-sameAs (leafAs seg) w (as-eq q)) away))
+
+-- ---- a segment with no entries
+
+module _ (seg : Segment) {n : ℕ} (count : n ≡ entryCount seg) (none : n ≡ 0) where
+  pub empty-leaving : (v : Vertex) → [] ≡ leavingOf v seg
+  unfolding leavingOf
+  empty-leaving v = sym (ap (filter (leaves v)) (none-stored seg (sym count ∙ none)) ∙ unfold filter in refl)
+
+  pub empty-between : (v w : Vertex) → [] ≡ between seg v w
+  unfolding between
+  empty-between v w = sym (ap (filter (hasEnds v w)) (none-stored seg (sym count ∙ none)) ∙ unfold filter in refl)
+
+-- ---- a core segment
+
+module _ (b : List ℕ) (k : ℕ) (core : segmentAt b k .core ≡ true) {n : ℕ} (count : n ≡ entryCount (segmentAt b k)) (some : 0 < n) where
+  full : entryCount (segmentAt b k) ≡ 0 → ⊥
+  full q = omega arith
+
+  module _ {v : Vertex} {a first last : IsdAsn} (at : v ≡ AS a) (f : first ≡ asOf (segmentAt b k) 0) (l : last ≡ leafAs (segmentAt b k)) where
+    -- between two ASes
+    module _ (w : IsdAsn) {j : Bool} (test : j ≡ joins first last a w) where
+      abbrev edge : Edge
+      edge = edgeOf (segmentAt b k) (AS a) (AS w) (entryCount (segmentAt b k) - 1) 0 0
+
+      core-is : when j edge ≡ between (segmentAt b k) v (AS w)
+      unfolding coreEdge
+      core-is =
+          ap (λ x. when x edge) (test ∙ ap₂ (λ x y. joins x y a w) f l)
+          ∙ sym (core-as (segmentAt b k) core full a w)
+          ∙ ap (λ x. between (segmentAt b k) x (AS w)) (sym at)
+
+      pub core-made : {u : Bool} → j ≡ true → u ≡ sameAs w last → (made b k (AS a) (AS w) (n - 1) 0 0 u true ∷ []) ≡ between (segmentAt b k) v (AS w)
+      core-made {u} yes arrives =
+          ap (λ x. x ∷ []) (edge-made b k (AS a) (AS w) (n - 1) 0 0 u true (arrives ∙ ap (sameAs w) l ∙ construction) (sym core))
+          ∙ ap (λ m. edgeOf (segmentAt b k) (AS a) (AS w) (m - 1) 0 0 ∷ []) count
+          ∙ sym (ap (λ x. when x edge) yes)
+          ∙ core-is
+        where
+          construction : sameAs w (leafAs (segmentAt b k)) ≡ inConstruction (segmentAt b k) (AS w)
+          construction = unfold inConstruction sameVertex in refl
+
+      pub core-none : j ≡ false → [] ≡ between (segmentAt b k) v (AS w)
+      core-none no = sym (ap (λ x. when x edge) no) ∙ core-is
+
+    -- from an AS
+    abbrev there : Edge
+    there = edgeOf (segmentAt b k) (AS (asOf (segmentAt b k) 0)) (AS (leafAs (segmentAt b k))) (entryCount (segmentAt b k) - 1) 0 0
+
+    abbrev back : Edge
+    back = edgeOf (segmentAt b k) (AS (leafAs (segmentAt b k))) (AS (asOf (segmentAt b k) 0)) (entryCount (segmentAt b k) - 1) 0 0
+
+    leaving-is : {x y : Bool} → x ≡ sameAs first a → y ≡ sameAs last a
+        → (if x then there ∷ [] else if y then back ∷ [] else []) ≡ leavingOf v (segmentAt b k)
+    unfolding coreEdgeFrom sameVertex
+    leaving-is p q =
+        ap₂ (λ x y. if x then there ∷ [] else if y then back ∷ [] else []) (p ∙ ap (λ c. sameAs c a) f) (q ∙ ap (λ c. sameAs c a) l)
+        ∙ ap (coreEdgeFrom (segmentAt b k)) (sym at)
+        ∙ sym (core-leaving (segmentAt b k) core full v)

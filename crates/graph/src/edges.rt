@@ -123,13 +123,19 @@ fn count_of(book: &[u8], k: u8) -> u8
     segment::head(book, k).entries as u8
 }
 
+fn wide(x: u16) -> usize
+    ensures { λ r. ⌜ (r ≡ x) × (r < 2 ^ 16) ⌝ }
+{
+    x as usize
+}
+
 // Where entry i of the segment at position k starts.
 fn offset_at(table: &[u16; PLACES], k: u8, i: u8) -> usize
     requires { ⌜ k < maxSegments ⌝ }
     requires { ⌜ i < maxEntries ⌝ }
     ensures { λ r. ⌜ (r ≡ getD (now (table .entry)) (maxEntries * k + i) 0) × (r < 2 ^ 16) ⌝ }
 {
-    table[Limits::ENTRIES * (k as usize) + (i as usize)] as usize
+    wide(table[Limits::ENTRIES * (k as usize) + (i as usize)])
 }
 
 fn as_at(book: &[u8], table: &[u16; PLACES], k: u8, i: u8) -> IsdAsn

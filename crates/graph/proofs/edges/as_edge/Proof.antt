@@ -1,37 +1,39 @@
+-- `as_edge` meets its contract.
+-- Assumes nothing.
+use native.Mathlib.Omega.{arith}
+use mathlib.Core.Path.{sym}
+use Rattle.graph.specs.Lookup.{foundEdges}
+use Rattle.graph.proofs.LookupReads.{as-made, as-none}
 use borrow.Author.Needs.{needs}
 use Rattle.graph.proofs.edges.as_edge.Statement.{statement}
 use Rattle.graph.proofs.edges.as_edge.Tie as tie
-use Rattle.graph.proofs.edges.as_edge.Reads as reads
-use Rattle.graph.proofs.edges.as_edge.Lts as lts
-use Rattle.graph.proofs.edges.find_as.Reads as find-as-reads
 
--- src/edges.rt:258:40
 sub-find-as : tie.Need-sub-find-as
 sub-find-as c = search needs
 
--- src/edges.rt:258:9
 find-as-requires : tie.Need-find-as-requires
 find-as-requires c κs = search needs
 
--- src/edges.rt:259:12
 sub-if1 : tie.Need-sub-if1
 sub-if1 c = search needs
 
--- src/edges.rt:263:21
 sub-t12 : tie.Need-sub-t12
 sub-t12 c = search needs
 
--- src/edges.rt:263:21
 sub-t13 : tie.Need-sub-t13
 sub-t13 c = search needs
 
--- src/edges.rt:260:9
 returns : tie.Need-returns
-returns c = ?
+unfolding foundEdges
+returns c =
+    let s = c .before .before .before in
+    as-made (s .args .book .now) (s .args .k) _ _ _ _ (s .pre .0 .count) _ _ _ (c .before .find-as .ensures) (omega arith) (s .pre .1 .1) (sym (s .pre .1 .0))
 
--- src/edges.rt:243:1
 returns-2 : tie.Need-returns-2
-returns-2 c = ?
+unfolding foundEdges
+returns-2 c =
+    let s = c .before .before .before in
+    as-none (s .args .book .now) (s .args .k) _ _ _ _ (s .pre .0 .count) _ (c .before .find-as .ensures) (omega arith)
 
 pub as-edge-spec : {M : Type 1} → statement M
 as-edge-spec =

@@ -1,47 +1,51 @@
+-- `find_as` meets its contract. The loop's invariant: no entry below i has the AS.
+-- Assumes nothing.
+use Prim.Native.Nat.{_-_}
+use native.Mathlib.Omega.{arith}
+use borrow.Author.Needs.{needs}
+use Rattle.spec.specs.Book.{segmentAt}
+use Rattle.graph.specs.Leaving.{isEntryOf}
+use Rattle.graph.specs.Scan.{entryWith}
+use Rattle.graph.proofs.LookupScan.{Scanning, scan-start, scan-stop, scan-turn, scan-end}
+use Rattle.graph.proofs.LookupReads.{entry-test}
 use Rattle.graph.proofs.edges.find_as.Statement.{statement}
 use Rattle.graph.proofs.edges.find_as.Tie as tie
-use Rattle.graph.proofs.edges.find_as.Reads as reads
-use Rattle.graph.proofs.edges.find_as.Lts as lts
-use Rattle.graph.proofs.edges.as_at.Reads as as-at-reads
-use Rattle.graph.proofs.edges.same_as.Reads as same-as-reads
 
 abbrev Inv-loop : tie.InvT-loop
-Inv-loop book table k a n i₀ i = ?
+Inv-loop book table k a n i₀ i = Scanning (isEntryOf (segmentAt book k) a) n i
 
 abbrev μ-loop : tie.MeasureT-loop
-μ-loop book table k a n i₀ i = ?
+μ-loop book table k a n i₀ i = n - i
 
--- src/edges.rt:123:5
 loop-holds : tie.Need-loop-holds Inv-loop μ-loop
-loop-holds c = ?
+loop-holds c = scan-start _ _
 
--- src/edges.rt:124:20
 as-at-requires : tie.Need-as-at-requires Inv-loop μ-loop
-as-at-requires c κs = ?
+as-at-requires c κs = search needs
 
--- src/edges.rt:124:12
 same-as-requires : tie.Need-same-as-requires Inv-loop μ-loop
-same-as-requires c κs = ?
+same-as-requires c κs = search needs
 
--- src/edges.rt:125:13
 returns : tie.Need-returns Inv-loop μ-loop
-returns c = ?
+unfolding entryWith
+returns c =
+    let l = c .before .before .before .before in
+    scan-stop _ _ _ (l .loop .inv) (omega arith) (entry-test _ _ _ (c .before .before .as-at .ensures) (c .before .same-as .ensures) (c .if1 .taken))
 
--- src/edges.rt:127:9
 add-i : tie.Need-add-i Inv-loop μ-loop
-add-i c = ?
+add-i c = omega arith
 
--- src/edges.rt:123:5
 loop-less : tie.Need-loop-less Inv-loop μ-loop
-loop-less c = ?
+loop-less c = omega arith
 
--- src/edges.rt:123:5
 loop-again : tie.Need-loop-again Inv-loop μ-loop
-loop-again c = ?
+loop-again c =
+    let l = c .before .before .before .before in
+    scan-turn _ _ _ (l .loop .inv) (omega arith) (entry-test _ _ _ (c .before .before .as-at .ensures) (c .before .same-as .ensures) (c .if1 .left))
 
--- src/edges.rt:116:1
 returns-2 : tie.Need-returns-2 Inv-loop μ-loop
-returns-2 c = ?
+unfolding entryWith
+returns-2 c = scan-end _ _ _ (c .before .loop .inv) (omega arith)
 
 pub find-as-spec : {M : Type 1} → statement M
 find-as-spec =

@@ -1,75 +1,93 @@
+-- `find_peer` meets its contract. The loop's invariant: no peer from p on has the link.
+-- Assumes nothing.
+use native.Mathlib.Omega.{arith}
+use borrow.Author.Needs.{needs}
+use borrow.Author.Tests.{not-true, not-false}
+use mathlib.Core.Path.{sym, ap, _∙_}
+use Rattle.spec.specs.Book.{segmentAt, peerCount}
+use Rattle.graph.specs.Leaving.{peerCountOf, isLink}
+use Rattle.graph.specs.Scan.{peerLinked}
+use Rattle.graph.specs.Link.{endOf}
+use Rattle.graph.proofs.LookupScan.{Sinking, sink-start, sink-stop, sink-turn, sink-end}
+use Rattle.graph.proofs.LookupReads.{position-below, count-small, peers-read, here-test, peer-test, link-none}
 use Rattle.graph.proofs.edges.find_peer.Statement.{statement}
 use Rattle.graph.proofs.edges.find_peer.Tie as tie
-use Rattle.graph.proofs.edges.find_peer.Reads as reads
-use Rattle.graph.proofs.edges.find_peer.Lts as lts
-use Rattle.graph.proofs.edges.offset_at.Reads as offset-at-reads
-use Rattle.graph.proofs.edges.peer_offset.Reads as peer-offset-reads
-use Rattle.graph.proofs.edges.peers_at.Reads as peers-at-reads
-use Rattle.graph.proofs.edges.same_as.Reads as same-as-reads
-use Rattle.graph.proofs.edges.same_peer.Reads as same-peer-reads
-use Rattle.segment.proofs.isd_asn.Reads as isd-asn-reads
 
 abbrev Inv-loop : tie.InvT-loop
-Inv-loop book table k i link at p₀ p = ?
+Inv-loop book table k i link at p₀ p = Sinking (isLink (segmentAt book k) (endOf link) i) (peerCountOf (segmentAt book k) i) p
 
 abbrev μ-loop : tie.MeasureT-loop
-μ-loop book table k i link at p₀ p = ?
+μ-loop book table k i link at p₀ p = p
 
--- src/edges.rt:187:9
 offset-at-requires : tie.Need-offset-at-requires Inv-loop μ-loop
-offset-at-requires c κs = ?
+offset-at-requires c κs =
+    let p = c .before .pre in
+    (position-below _ _ (p .0) _ (p .1 .0), omega (arith, count-small _ _ (p .0) _ (p .1 .0)))
 
--- src/edges.rt:188:17
 isd-asn-requires : tie.Need-isd-asn-requires Inv-loop μ-loop
-isd-asn-requires c κs = ?
+isd-asn-requires c κs = search needs
 
--- src/edges.rt:188:9
 same-as-requires : tie.Need-same-as-requires Inv-loop μ-loop
-same-as-requires c κs = ?
+same-as-requires c κs = search needs
 
--- src/edges.rt:189:9
 returns : tie.Need-returns Inv-loop μ-loop
-returns c = ?
+returns c =
+    let s = c .before .before .before .before .before in
+    let p = s .pre in
+    link-none (segmentAt (s .args .book .now) (s .args .k)) (s .args .link) _
+    (here-test _ _ (p .0) _ (p .1 .0) _ (p .1 .1) _ (c .before .before .before .offset-at .ensures .0) (c .before .before .isd-asn .ensures) (c .before .same-as .ensures) (not-true _ (c .if1 .taken)))
 
--- src/edges.rt:191:9
 peers-at-requires : tie.Need-peers-at-requires Inv-loop μ-loop
-peers-at-requires c κs = ?
+peers-at-requires c κs = search needs
 
--- src/edges.rt:192:5
 loop-holds : tie.Need-loop-holds Inv-loop μ-loop
-loop-holds c = ?
+loop-holds c =
+    let s = c .before .before .before .before .before .before in
+    let p = s .pre in
+    sink-start _ _ _
+    (c .peers-at .ensures
+    ∙ ap (peerCount (s .args .book .now)) (c .before .before .before .before .offset-at .ensures .0)
+    ∙ sym (peers-read _ _ (p .0) _ (p .1 .0) _ (p .1 .1)))
 
--- src/edges.rt:193:44
 sub-peer-offset : tie.Need-sub-peer-offset Inv-loop μ-loop
-sub-peer-offset c = ?
+sub-peer-offset c = omega arith
 
--- src/edges.rt:193:28
 peer-offset-requires : tie.Need-peer-offset-requires Inv-loop μ-loop
-peer-offset-requires c κs = ?
+peer-offset-requires c κs = search needs
 
--- src/edges.rt:193:12
 same-peer-requires : tie.Need-same-peer-requires Inv-loop μ-loop
-same-peer-requires c κs = ?
+same-peer-requires c κs = search needs
 
--- src/edges.rt:194:13
 returns-2 : tie.Need-returns-2 Inv-loop μ-loop
-returns-2 c = ?
+unfolding peerLinked
+returns-2 c =
+    let l = c .before .before .before .before in
+    let s = l .before .before .before .before .before .before .before in
+    let p = s .pre in
+    sink-stop _ _ _ (l .loop .inv) (omega arith)
+    (peer-test _ _ (p .0) _ (p .1 .0) _ (p .1 .1) (s .args .link)
+    (here-test _ _ (p .0) _ (p .1 .0) _ (p .1 .1) _ (l .before .before .before .before .before .offset-at .ensures .0) (l .before .before .before .before .isd-asn .ensures) (l .before .before .before .same-as .ensures) (not-false _ (l .before .before .if1 .left)))
+    _ (omega arith) (l .before .before .before .before .before .offset-at .ensures .0) (c .before .before .peer-offset .ensures) (c .before .same-peer .ensures) (c .if2 .taken))
 
--- src/edges.rt:196:9
 sub-p : tie.Need-sub-p Inv-loop μ-loop
-sub-p c = ?
+sub-p c = omega arith
 
--- src/edges.rt:192:5
 loop-less : tie.Need-loop-less Inv-loop μ-loop
-loop-less c = ?
+loop-less c = omega arith
 
--- src/edges.rt:192:5
 loop-again : tie.Need-loop-again Inv-loop μ-loop
-loop-again c = ?
+loop-again c =
+    let l = c .before .before .before .before in
+    let s = l .before .before .before .before .before .before .before in
+    let p = s .pre in
+    sink-turn _ _ _ (l .loop .inv) (omega arith)
+    (peer-test _ _ (p .0) _ (p .1 .0) _ (p .1 .1) (s .args .link)
+    (here-test _ _ (p .0) _ (p .1 .0) _ (p .1 .1) _ (l .before .before .before .before .before .offset-at .ensures .0) (l .before .before .before .before .isd-asn .ensures) (l .before .before .before .same-as .ensures) (not-false _ (l .before .before .if1 .left)))
+    _ (omega arith) (l .before .before .before .before .before .offset-at .ensures .0) (c .before .before .peer-offset .ensures) (c .before .same-peer .ensures) (c .if2 .left))
 
--- src/edges.rt:181:1
 returns-3 : tie.Need-returns-3 Inv-loop μ-loop
-returns-3 c = ?
+unfolding peerLinked
+returns-3 c = sink-end _ _ _ (c .before .loop .inv) (omega arith)
 
 pub find-peer-spec : {M : Type 1} → statement M
 find-peer-spec =

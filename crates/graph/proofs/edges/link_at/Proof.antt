@@ -1,40 +1,39 @@
+-- `link_at` meets its contract.
+-- Assumes nothing.
+use Rattle.graph.proofs.LookupReads.{link-read}
+use native.Mathlib.Omega.{arith}
+use Rattle.graph.proofs.LookupReads.{position-below, count-small}
 use borrow.Author.Needs.{needs}
 use Rattle.graph.proofs.edges.link_at.Statement.{statement}
 use Rattle.graph.proofs.edges.link_at.Tie as tie
-use Rattle.graph.proofs.edges.link_at.Reads as reads
-use Rattle.graph.proofs.edges.link_at.Lts as lts
-use Rattle.graph.proofs.edges.offset_at.Reads as offset-at-reads
-use Rattle.graph.proofs.edges.peer_offset.Reads as peer-offset-reads
-use Rattle.octets.proofs.be16_past.Reads as be16-past-reads
-use Rattle.segment.proofs.isd_asn.Reads as isd-asn-reads
 
--- src/edges.rt:226:9
 offset-at-requires : tie.Need-offset-at-requires
-offset-at-requires c κs = ?
+offset-at-requires c κs =
+    let p = c .before .pre in
+    (position-below _ _ (p .0) _ (p .1 .0), omega (arith, count-small _ _ (p .0) _ (p .1 .0)))
 
--- src/edges.rt:227:9
 peer-offset-requires : tie.Need-peer-offset-requires
 peer-offset-requires c κs = search needs
 
--- src/edges.rt:228:9
 isd-asn-requires : tie.Need-isd-asn-requires
 isd-asn-requires c κs = search needs
 
--- src/edges.rt:229:9
 be16-past-requires : tie.Need-be16-past-requires
 be16-past-requires c κs = search needs
 
--- src/edges.rt:230:9
 isd-asn-requires-2 : tie.Need-isd-asn-requires-2
 isd-asn-requires-2 c κs = search needs
 
--- src/edges.rt:231:9
 be16-past-requires-2 : tie.Need-be16-past-requires-2
 be16-past-requires-2 c κs = search needs
 
--- src/edges.rt:219:1
 returns : tie.Need-returns
-returns c = ?
+returns c =
+    let s = c .before .before .before .before .before .before .before in
+    let p = s .pre in
+    link-read _ _ _ (p .0) (p .1 .0) _ (p .1 .1 .0) _ (p .1 .1 .1)
+    (c .before .before .before .before .before .offset-at .ensures .0) (c .before .before .before .before .peer-offset .ensures)
+    (c .before .before .before .isd-asn .ensures) (c .before .before .be16-past .ensures) (c .before .isd-asn2 .ensures) (c .be16-past2 .ensures)
 
 pub link-at-spec : {M : Type 1} → statement M
 link-at-spec =

@@ -1,34 +1,38 @@
+-- `link_edge` meets its contract.
+-- Assumes nothing.
+use native.Mathlib.Omega.{arith}
+use mathlib.Core.Path.{sym}
+use Rattle.graph.specs.Lookup.{foundEdges}
+use Rattle.graph.specs.Link.{endOf}
+use Rattle.graph.proofs.LookupReads.{peer-made, peer-none}
 use borrow.Author.Needs.{needs}
 use Rattle.graph.proofs.edges.link_edge.Statement.{statement}
 use Rattle.graph.proofs.edges.link_edge.Tie as tie
-use Rattle.graph.proofs.edges.link_edge.Reads as reads
-use Rattle.graph.proofs.edges.link_edge.Lts as lts
-use Rattle.graph.proofs.edges.find_linked.Reads as find-linked-reads
-use Rattle.graph.proofs.edges.find_peer.Reads as find-peer-reads
 
--- src/edges.rt:322:9
 find-linked-requires : tie.Need-find-linked-requires
 find-linked-requires c κs = search needs
 
--- src/edges.rt:324:13
 find-peer-requires : tie.Need-find-peer-requires
 find-peer-requires c κs = search needs
 
--- src/edges.rt:328:21
 sub-t11 : tie.Need-sub-t11
 sub-t11 c = search needs
 
--- src/edges.rt:328:21
 sub-t12 : tie.Need-sub-t12
 sub-t12 c = search needs
 
--- src/edges.rt:325:9
 returns : tie.Need-returns
-returns c = ?
+unfolding foundEdges
+returns c =
+    let s = c .before .before .before .before in
+    peer-made (s .args .book .now) (s .args .k) _ _ _ _ (s .pre .0 .count) (endOf (s .args .link)) (c .before .before .find-linked .ensures) _ _ _
+    (c .find-peer .ensures) (omega arith) (s .pre .1 .1) (sym (s .pre .1 .0))
 
--- src/edges.rt:308:1
 returns-2 : tie.Need-returns-2
-returns-2 c = ?
+unfolding foundEdges
+returns-2 c =
+    let s = c .before .before .before in
+    peer-none (s .args .book .now) (s .args .k) _ _ _ _ (s .pre .0 .count) (endOf (s .args .link)) (c .before .find-linked .ensures) (omega arith)
 
 pub link-edge-spec : {M : Type 1} → statement M
 link-edge-spec =

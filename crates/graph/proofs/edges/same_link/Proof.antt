@@ -1,33 +1,39 @@
+-- `same_link` meets its contract.
+-- Assumes nothing.
+use mathlib.Core.Path.{sym, _∙_}
+use borrow.Author.Tests.{not-true, not-false}
+use Rattle.graph.proofs.LookupReads.{links-ingress, links-interface, links-local, links-peer}
 use borrow.Author.Needs.{needs}
 use Rattle.graph.proofs.edges.same_link.Statement.{statement}
 use Rattle.graph.proofs.edges.same_link.Tie as tie
-use Rattle.graph.proofs.edges.same_link.Reads as reads
-use Rattle.graph.proofs.edges.same_link.Lts as lts
-use Rattle.graph.proofs.edges.same_as.Reads as same-as-reads
 
--- src/edges.rt:47:9
 returns : tie.Need-returns
-returns c = ?
+returns c =
+    let a = c .before .before .before .args in
+    links-ingress (a .a) (a .b) (c .if1 .taken)
 
--- src/edges.rt:50:9
 returns-2 : tie.Need-returns-2
-returns-2 c = ?
+returns-2 c =
+    let a = c .before .before .before .before .before .before .args in
+    links-interface (a .a) (a .b) (c .if2 .taken)
 
--- src/edges.rt:52:9
 same-as-requires : tie.Need-same-as-requires
 same-as-requires c κs = search needs
 
--- src/edges.rt:53:9
 returns-3 : tie.Need-returns-3
-returns-3 c = ?
+returns-3 c =
+    let a = c .before .before .before .before .before .before .before .before .args in
+    links-local (a .a) (a .b) (sym (c .before .same-as .ensures) ∙ not-true _ (c .if3 .taken))
 
--- src/edges.rt:55:5
 same-as-requires-2 : tie.Need-same-as-requires-2
 same-as-requires-2 c κs = search needs
 
--- src/edges.rt:43:1
 returns-4 : tie.Need-returns-4
-returns-4 c = ?
+returns-4 c =
+    let a = c .before .before .before .before .before .before .before .before .before .args in
+    c .same-as2 .ensures
+    ∙ links-peer (a .a) (a .b) (c .before .before .before .before .before .before .if1 .left) (c .before .before .before .if2 .left)
+    (sym (c .before .before .same-as .ensures) ∙ not-false _ (c .before .if3 .left))
 
 pub same-link-spec : {M : Type 1} → statement M
 same-link-spec =
