@@ -7,7 +7,7 @@ use mathlib.Core.Bool.{Bool, true, false, _&&_, _||_, not}
 use mathlib.Core.List.{List, [], _∷_}
 use lib.ListN.{length, getD}
 use lib.Dec.{ltb, eqb}
-use borrow.Author.Tests.{eqb-true, eqb-false, eq-eqb, ne-eqb, lt-ltb, le-ltb}
+use borrow.Author.Tests.{ltb-true, ltb-false, eqb-true, eqb-false, eq-eqb, ne-eqb, lt-ltb, le-ltb}
 use Rattle.spec.specs.declared.IsdAsn.{IsdAsn}
 use Rattle.spec.specs.declared.Vertex.{Vertex}
 use Rattle.spec.specs.declared.Vertex.the-variants.{AS, Peering}
@@ -23,21 +23,21 @@ use Rattle.spec.specs.Book.{Segment, segmentAt, segmentCount, sizesAt, headAt, 
 use Rattle.spec.specs.Edges.{sameAs, sameVertex, asOf, leafAs, peerOf, inConstruction, edgeOf}
 use Rattle.spec.proofs.Membership.{not-both}
 use Rattle.spec.proofs.Vertices.{sameAs-eq}
-use Rattle.spec.proofs.OnceLaws.{segment-position}
-use Rattle.spec.proofs.BookLaws.{AcceptedBook, accepted, entry-count, segment-length}
+use Rattle.spec.proofs.OnceLaws.{any-mem, segment-position}
+use Rattle.spec.proofs.BookLaws.{AcceptedBook, accepted, mem-range, entry-count, segment-length}
 use Rattle.segment.specs.Offsets.{offsetTable}
 use Rattle.segment.proofs.Fitting.{position-small}
 use Rattle.segment.proofs.Tables.{table-as, table-peers, table-peer}
 use Rattle.graph.specs.declared.edges.Link.{Link}
 use Rattle.spec.specs.Chains.{leaves}
 use Rattle.graph.specs.Lookup.{hasEnds, between, leavingOf}
-use Rattle.graph.specs.Leaving.{entryCount, peerCountOf, linkOf, isEntryOf, isLink, hasLink}
+use Rattle.graph.specs.Leaving.{entryCount, peerCountOf, linkOf, isEntryOf, asStands, isLink, hasLink, peerStands, asUp, peerUp}
 use Rattle.graph.specs.Scan.{joins, firstWith, lastWith, entryWith, entryLinked, peerLinked, asEdgeAt, peerEdgeAt, downPeerEdge, coreEdge, coreEdgeFrom}
 use Rattle.graph.specs.Ready.{Ready, Filled}
 use Rattle.graph.specs.Link.{endOf, samePeer}
-use Rattle.graph.proofs.LookupScan.{when}
+use Rattle.graph.proofs.LookupScan.{when, any-first, is-last}
 use Rattle.graph.proofs.LookupLaws.{up-as, down-as, down-link, no-leaf, core-as, core-peering, core-leaving, none-stored, as-eq, eq-sameAs, as-not-peering}
-use Rattle.graph.proofs.LeavingLaws.{linked}
+use Rattle.graph.proofs.LeavingLaws.{linked, peer-last, link-own}
 
 pub count-read : (b : List ℕ) (k : ℕ) → entryCount (segmentAt b k) ≡ entryCountAt b k
 unfolding entryCount
@@ -383,17 +383,17 @@ module _ (b : List ℕ) (k : ℕ) (core : segmentAt b k .core ≡ true) {n : ℕ
           ∙ ap (λ x. between (segmentAt b k) x (AS w)) (sym at)
 
       pub core-made : {u : Bool} → j ≡ true → u ≡ sameAs w last → (made b k (AS a) (AS w) (n - 1) 0 0 u true ∷ []) ≡ between (segmentAt b k) v (AS w)
-      core-made {u} yes arrives =
+      core-made {u} holds arrives =
           ap (λ x. x ∷ []) (edge-made b k (AS a) (AS w) (n - 1) 0 0 u true (arrives ∙ ap (sameAs w) l ∙ construction) (sym core))
           ∙ ap (λ m. edgeOf (segmentAt b k) (AS a) (AS w) (m - 1) 0 0 ∷ []) count
-          ∙ sym (ap (λ x. when x edge) yes)
+          ∙ sym (ap (λ x. when x edge) holds)
           ∙ core-is
         where
           construction : sameAs w (leafAs (segmentAt b k)) ≡ inConstruction (segmentAt b k) (AS w)
           construction = unfold inConstruction sameVertex in refl
 
       pub core-none : j ≡ false → [] ≡ between (segmentAt b k) v (AS w)
-      core-none no = sym (ap (λ x. when x edge) no) ∙ core-is
+      core-none fails = sym (ap (λ x. when x edge) fails) ∙ core-is
 
     -- from an AS
     abbrev there : Edge
@@ -409,3 +409,172 @@ module _ (b : List ℕ) (k : ℕ) (core : segmentAt b k .core ≡ true) {n : ℕ
         ap₂ (λ x y. if x then there ∷ [] else if y then back ∷ [] else []) (p ∙ ap (λ c. sameAs c a) f) (q ∙ ap (λ c. sameAs c a) l)
         ∙ ap (coreEdgeFrom (segmentAt b k)) (sym at)
         ∙ sym (core-leaving (segmentAt b k) core full v)
+
+    pub leaving-first : {x : Bool} → x ≡ sameAs first a → x ≡ true → (made b k (AS first) (AS last) (n - 1) 0 0 true true ∷ []) ≡ leavingOf v (segmentAt b k)
+    leaving-first {x} p h =
+        ap (λ e. e ∷ []) (edge-made b k (AS first) (AS last) (n - 1) 0 0 true true (leaf-arrives (segmentAt b k) last true (eq-sameAs _ _ (sym l))) (sym core))
+        ∙ ap₂ (λ y z. edgeOf (segmentAt b k) (AS y) (AS z) (n - 1) 0 0 ∷ []) f l
+        ∙ ap (λ m. edgeOf (segmentAt b k) (AS (asOf (segmentAt b k) 0)) (AS (leafAs (segmentAt b k))) (m - 1) 0 0 ∷ []) count
+        ∙ sym (ap (λ y. if y then there ∷ [] else if sameAs last a then back ∷ [] else []) h)
+        ∙ leaving-is p refl
+
+    pub leaving-last : {x y : Bool} → x ≡ sameAs first a → x ≡ false → y ≡ sameAs last a → y ≡ true
+        → (made b k (AS last) (AS first) (n - 1) 0 0 false true ∷ []) ≡ leavingOf v (segmentAt b k)
+    leaving-last p h q g =
+        ap (λ e. e ∷ []) (edge-made b k (AS last) (AS first) (n - 1) 0 0 false true (leaf-arrives (segmentAt b k) first false apart) (sym core))
+        ∙ ap₂ (λ y z. edgeOf (segmentAt b k) (AS y) (AS z) (n - 1) 0 0 ∷ []) l f
+        ∙ ap (λ m. edgeOf (segmentAt b k) (AS (leafAs (segmentAt b k))) (AS (asOf (segmentAt b k) 0)) (m - 1) 0 0 ∷ []) count
+        ∙ sym (ap₂ (λ y z. if y then there ∷ [] else if z then back ∷ [] else []) h g)
+        ∙ leaving-is p q
+      where
+        -- the last AS is the one sought, and the first is not
+        apart : sameAs (leafAs (segmentAt b k)) first ≡ false
+        apart = not-same (sameAs (leafAs (segmentAt b k)) first) refl
+          where
+            not-same : (z : Bool) → sameAs (leafAs (segmentAt b k)) first ≡ z → z ≡ false
+            not-same true r = not-both (eq-sameAs first a (sym (sameAs-eq _ _ r) ∙ sym l ∙ sameAs-eq last a (sym q ∙ g))) (sym p ∙ h)
+            not-same false r = refl
+
+    pub leaving-none : {x y : Bool} → x ≡ sameAs first a → x ≡ false → y ≡ sameAs last a → y ≡ false → [] ≡ leavingOf v (segmentAt b k)
+    leaving-none p h q g = sym (ap₂ (λ y z. if y then there ∷ [] else if z then back ∷ [] else []) h g) ∙ leaving-is p q
+
+  -- a peering end
+  module _ {v : Vertex} {l p : IsdAsn} {i j : ℕ} (at : v ≡ Peering l i p j) where
+    pub leaving-peering : [] ≡ leavingOf v (segmentAt b k)
+    unfolding coreEdgeFrom sameVertex
+    leaving-peering = ap (coreEdgeFrom (segmentAt b k)) (sym at) ∙ sym (core-leaving (segmentAt b k) core full v)
+
+    pub between-peering : (w : Vertex) → [] ≡ between (segmentAt b k) v w
+    between-peering w = sym (core-peering (segmentAt b k) core full l p i j w) ∙ ap (λ x. between (segmentAt b k) x w) (sym at)
+
+-- ---- up from the leaf
+
+module _ (seg : Segment) (i : ℕ) where
+  stands-as : asStands seg i ≡ (ltb i (entryCount seg - 1) && not (ltb (entryWith seg (asOf seg i) i) i))
+  unfolding asStands entryWith
+  stands-as =
+      let e : 0 + i ≡ i = omega arith in
+      ap (λ x. ltb i (entryCount seg - 1) && not x)
+      (any-first (isEntryOf seg (asOf seg i)) 0 i ∙ ap (ltb (firstWith (isEntryOf seg (asOf seg i)) 0 i)) e)
+
+  fallen : asStands seg i ≡ false → [] ≡ asUp seg i
+  unfolding asUp
+  fallen h = sym (ap (λ x. when x (edgeOf seg (AS (leafAs seg)) (AS (asOf seg i)) (entryCount seg - 1 - i) i 0)) h)
+
+  pub up-leaf : {n : ℕ} → n ≡ entryCount seg → i ≡ n - 1 → [] ≡ asUp seg i
+  up-leaf count h =
+      fallen (stands-as ∙ ap (λ x. x && not (ltb (entryWith seg (asOf seg i) i) i)) (le-ltb i (entryCount seg - 1) (omega arith)))
+
+  pub up-again : {x : IsdAsn} {j : ℕ} → x ≡ asOf seg i → j ≡ entryWith seg x i → j < i → [] ≡ asUp seg i
+  up-again here found h =
+      let e = found ∙ ap (λ y. entryWith seg y i) here in
+      fallen (stands-as ∙ ap (λ x. ltb i (entryCount seg - 1) && not x) (lt-ltb (entryWith seg (asOf seg i) i) i (omega arith)) ∙ and-no (ltb i (entryCount seg - 1)))
+    where
+      and-no : (x : Bool) → (x && false) ≡ false
+      and-no true = refl
+      and-no false = refl
+
+  as-stands : {x : IsdAsn} {j : ℕ} → i < entryCount seg - 1 → x ≡ asOf seg i → j ≡ entryWith seg x i → i ≤ j → asStands seg i ≡ true
+  as-stands below here found h =
+      let e = found ∙ ap (λ y. entryWith seg y i) here in
+      stands-as ∙ ap₂ (λ x y. x && not y) (lt-ltb i (entryCount seg - 1) below) (le-ltb (entryWith seg (asOf seg i) i) i (omega arith))
+
+below-leaf : (i n : ℕ) → i < n → (i ≡ n - 1 → ⊥) → i < n - 1
+below-leaf i n l h = go (ltb i (n - 1)) refl
+  where
+    go : (x : Bool) → ltb i (n - 1) ≡ x → i < n - 1
+    go true q = ltb-true i (n - 1) q
+    go false q = let g = ltb-false i (n - 1) q in absurd (h (omega arith))
+
+module _ (b : List ℕ) (k i : ℕ) {n : ℕ} (count : n ≡ entryCount (segmentAt b k)) {leaf : IsdAsn} (last : leaf ≡ leafAs (segmentAt b k)) where
+  pub up-made : {x : IsdAsn} {j : ℕ} {u t : Bool} → i < n → (i ≡ n - 1 → ⊥) → x ≡ asOf (segmentAt b k) i → j ≡ entryWith (segmentAt b k) x i → i ≤ j
+      → u ≡ sameAs x leaf → t ≡ segmentAt b k .core → (made b k (AS leaf) (AS x) (n - 1 - i) i 0 u t ∷ []) ≡ asUp (segmentAt b k) i
+  unfolding asUp
+  up-made {x} {j} {u} {t} below other here found h arrives core =
+      ap (λ e. e ∷ []) (edge-made b k (AS leaf) (AS x) (n - 1 - i) i 0 u t (arrives ∙ ap (sameAs x) last ∙ construction x) core)
+      ∙ ap₂ (λ y z. edgeOf (segmentAt b k) (AS y) (AS z) (n - 1 - i) i 0 ∷ []) last here
+      ∙ ap (λ m. edgeOf (segmentAt b k) (AS (leafAs (segmentAt b k))) (AS (asOf (segmentAt b k) i)) (m - 1 - i) i 0 ∷ []) count
+      ∙ sym (ap (λ y. when y (edgeOf (segmentAt b k) (AS (leafAs (segmentAt b k))) (AS (asOf (segmentAt b k) i)) (entryCount (segmentAt b k) - 1 - i) i 0)) stands)
+    where
+      construction : (x : IsdAsn) → sameAs x (leafAs (segmentAt b k)) ≡ inConstruction (segmentAt b k) (AS x)
+      construction x = unfold inConstruction sameVertex in refl
+
+      low : i < entryCount (segmentAt b k) - 1
+      low = below-leaf i (entryCount (segmentAt b k)) (subst (λ m. i < m) count below) (λ q. other (q ∙ ap (λ m. m - 1) (sym count)))
+
+      stands : asStands (segmentAt b k) i ≡ true
+      stands = as-stands (segmentAt b k) i low here found h
+
+-- ---- up from the leaf to a peering end
+
+module _ (seg : Segment) (i p : ℕ) (l : p < peerCountOf seg i) where
+  -- a peer has its own link
+  pub link-some : {v : Vertex} {q : ℕ} → v ≡ linkOf seg i p → q ≡ peerLinked seg v i → 1 ≤ q
+  link-some here found = above (found ∙ ap (λ u. peerLinked seg u i) here)
+    where
+      own : hasLink seg (linkOf seg i p) i ≡ true
+      own = unfold hasLink in any-mem (isLink seg (linkOf seg i p) i) (range 0 (peerCountOf seg i)) (mem-range 0 (peerCountOf seg i) p (omega arith) (omega arith)) (link-own seg i p)
+
+      above : {q : ℕ} → q ≡ peerLinked seg (linkOf seg i p) i → 1 ≤ q
+      above e = let h = ltb-true 0 (peerLinked seg (linkOf seg i p) i) (sym (linked seg (linkOf seg i p) i) ∙ own) in omega arith
+
+  abbrev later : Bool
+  later = any (isLink seg (linkOf seg i p) i) (range (p + 1) (peerCountOf seg i - (p + 1)))
+
+  abbrev lower : Bool
+  lower = any (hasLink seg (linkOf seg i p)) (range 0 i)
+
+  peer-fallen : peerStands seg i p ≡ false → [] ≡ peerUp seg i p
+  unfolding peerUp
+  peer-fallen h = sym (ap (λ x. when x (edgeOf seg (AS (leafAs seg)) (linkOf seg i p) (entryCount seg - i) i (p + 1))) h)
+
+  pub up-later : {v : Vertex} {q : ℕ} → v ≡ linkOf seg i p → q ≡ peerLinked seg v i → (q - 1 ≡ p → ⊥) → [] ≡ peerUp seg i p
+  unfolding peerStands
+  up-later here found h = peer-fallen (go later refl)
+    where
+      go : (x : Bool) → later ≡ x → peerStands seg i p ≡ false
+      go true e = ap (λ x. not x && not lower) e
+      go false e = absurd (h (omega (arith, found ∙ ap (λ u. peerLinked seg u i) here, peer-last seg i p l e)))
+
+  pub up-lower : {v : Vertex} {j : ℕ} → v ≡ linkOf seg i p → j ≡ entryLinked seg v i → j < i → [] ≡ peerUp seg i p
+  unfolding peerStands entryLinked
+  up-lower here found h = peer-fallen (go later)
+    where
+      some : lower ≡ true
+      some =
+          let e : 0 + i ≡ i = omega arith in
+          any-first (hasLink seg (linkOf seg i p)) 0 i
+          ∙ lt-ltb (firstWith (hasLink seg (linkOf seg i p)) 0 i) (0 + i) (omega (arith, found ∙ ap (λ u. firstWith (hasLink seg u) 0 i) here))
+
+      go : (x : Bool) → (not x && not lower) ≡ false
+      go true = refl
+      go false = ap not some
+
+  peer-stands : {v : Vertex} {q j : ℕ} → v ≡ linkOf seg i p → q ≡ peerLinked seg v i → q ≡ suc p → j ≡ entryLinked seg v i → i ≤ j → peerStands seg i p ≡ true
+  unfolding peerStands entryLinked peerLinked
+  peer-stands here found own first h =
+      ap₂ (λ x y. not x && not y)
+      (is-last (isLink seg (linkOf seg i p) i) p (peerCountOf seg i) l (ap (λ u. lastWith (isLink seg u i) (peerCountOf seg i)) (sym here) ∙ sym found ∙ own))
+      (any-first (hasLink seg (linkOf seg i p)) 0 i
+      ∙ le-ltb (firstWith (hasLink seg (linkOf seg i p)) 0 i) (0 + i) (omega (arith, first ∙ ap (λ u. firstWith (hasLink seg u) 0 i) here)))
+
+module _ (b : List ℕ) (k i p : ℕ) (g : p < peerCountOf (segmentAt b k) i) {n : ℕ} (count : n ≡ entryCount (segmentAt b k))
+    {leaf : IsdAsn} (last : leaf ≡ leafAs (segmentAt b k)) where
+  pub peer-up-made : (m : Link) {q j : ℕ} {t : Bool} → endOf m ≡ linkOf (segmentAt b k) i p → q ≡ peerLinked (segmentAt b k) (endOf m) i → 1 ≤ q → q - 1 ≡ p
+      → j ≡ entryLinked (segmentAt b k) (endOf m) i → i ≤ j → t ≡ segmentAt b k .core
+      → (made b k (AS leaf) (endOf m) (n - i) i q false t ∷ []) ≡ peerUp (segmentAt b k) i p
+  unfolding peerUp
+  peer-up-made m {q} {j} {t} here found some own first h core =
+      ap (λ e. e ∷ []) (edge-made b k (AS leaf) (endOf m) (n - i) i q false t construction core)
+      ∙ ap₂ (λ y z. edgeOf (segmentAt b k) (AS y) z (n - i) i q ∷ []) last here
+      ∙ ap₂ (λ m r. edgeOf (segmentAt b k) (AS (leafAs (segmentAt b k))) (linkOf (segmentAt b k) i p) (m - i) i r ∷ []) count next
+      ∙ sym (ap (λ y. when y (edgeOf (segmentAt b k) (AS (leafAs (segmentAt b k))) (linkOf (segmentAt b k) i p) (entryCount (segmentAt b k) - i) i (p + 1))) stands)
+    where
+      construction : false ≡ inConstruction (segmentAt b k) (endOf m)
+      construction = unfold inConstruction sameVertex in refl
+
+      next : q ≡ p + 1
+      next = omega arith
+
+      stands : peerStands (segmentAt b k) i p ≡ true
+      stands = peer-stands (segmentAt b k) i p g here found (omega arith) first h

@@ -28,11 +28,9 @@ is-core-requires c κs = search needs
 core-between-requires : tie.Need-core-between-requires
 core-between-requires c κs =
     let n = c .before .before .before .before in
-    let p = n .before .before .pre in
-    (
+    let p = n .before .before .pre in (
       record { ready = p .0; below = p .1; count = n .count-of .ensures .0; some = omega arith },
-      sym (c .before .is-core .ensures) ∙ c .if2 .taken,
-      leaf-read _ (n .count-of .ensures .0) (c .before .before .as-at .ensures),
+      (sym (c .before .is-core .ensures) ∙ c .if2 .taken, leaf-read _ (n .count-of .ensures .0) (c .before .before .as-at .ensures)),
     )
 
 returns-2 : tie.Need-returns-2
@@ -45,11 +43,9 @@ to-leaf-requires : tie.Need-to-leaf-requires
 to-leaf-requires c κs =
     let n = c .before .before .before .before .before .before in
     let p = n .before .before .pre in
-    let l = leaf-read _ (n .count-of .ensures .0) (c .before .before .before .before .as-at .ensures) in
-    (
+    let l = leaf-read _ (n .count-of .ensures .0) (c .before .before .before .before .as-at .ensures) in (
       record { ready = p .0; below = p .1; count = n .count-of .ensures .0; some = omega arith },
-      sym (c .before .before .before .is-core .ensures) ∙ c .before .before .if2 .left,
-      ap (λ x. sameAs x (n .before .before .args .w)) (sym l) ∙ sym (c .before .same-as .ensures) ∙ c .if3 .taken,
+      (sym (c .before .before .before .is-core .ensures) ∙ c .before .before .if2 .left, ap (λ x. sameAs x (n .before .before .args .w)) (sym l) ∙ sym (c .before .same-as .ensures) ∙ c .if3 .taken),
     )
 
 returns-3 : tie.Need-returns-3
@@ -58,12 +54,9 @@ returns-3 c = search needs
 from-leaf-requires : tie.Need-from-leaf-requires
 from-leaf-requires c κs =
     let n = c .before .before .before .before .before .before in
-    let p = n .before .before .pre in
-    (
+    let p = n .before .before .pre in (
       record { ready = p .0; below = p .1; count = n .count-of .ensures .0; some = omega arith },
-      sym (c .before .before .before .is-core .ensures) ∙ c .before .before .if2 .left,
-      leaf-read _ (n .count-of .ensures .0) (c .before .before .before .before .as-at .ensures),
-      sym (c .before .same-as .ensures) ∙ c .if3 .left,
+      (sym (c .before .before .before .is-core .ensures) ∙ c .before .before .if2 .left, (leaf-read _ (n .count-of .ensures .0) (c .before .before .before .before .as-at .ensures), sym (c .before .same-as .ensures) ∙ c .if3 .left)),
     )
 
 returns-4 : tie.Need-returns-4

@@ -1,7 +1,7 @@
 -- `core_between` meets its contract.
 -- Assumes nothing.
 use Rattle.graph.specs.Lookup.{foundEdges}
-use Rattle.graph.proofs.LookupReads.{core-made, core-none}
+use Rattle.graph.proofs.LookupReads.{core-made, core-none, between-peering}
 use borrow.Author.Needs.{needs}
 use Rattle.graph.proofs.edges.core_between.Statement.{statement}
 use Rattle.graph.proofs.edges.core_between.Tie as tie
@@ -13,7 +13,11 @@ enum-told : tie.Need-enum-told
 enum-told c = search needs
 
 returns : tie.Need-returns
-returns c = ?
+unfolding foundEdges
+returns c =
+    let s = c .before .before .before in
+    let p = s .pre in
+    between-peering _ _ (p .1 .0) (p .0 .count) (p .0 .some) (c .enum-told .given .1) _
 
 as-at-requires : tie.Need-as-at-requires
 as-at-requires c κs = search needs

@@ -18,7 +18,7 @@ as-edge-requires : tie.Need-as-edge-requires
 as-edge-requires c κs =
     let s = c .before .before .before in
     let p = s .pre in
-    (p .0, p .1 .0, leaf-arrives _ _ _ (ap (λ x. sameAs x (s .args .w)) (sym (p .1 .1 .0)) ∙ p .1 .1 .1))
+    (p .0, (p .1 .0, leaf-arrives _ _ _ (ap (λ x. sameAs x (s .args .w)) (sym (p .1 .1 .0)) ∙ p .1 .1 .1)))
 
 returns : tie.Need-returns
 returns c =
