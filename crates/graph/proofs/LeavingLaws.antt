@@ -142,12 +142,12 @@ module _ (seg : Segment) where
   unfolding isEntryOf
   entry-own i = sameAs-refl (asOf seg i)
 
-  link-own : (i p : ℕ) → isLink seg (linkOf seg i p) i p ≡ true
+  pub link-own : (i p : ℕ) → isLink seg (linkOf seg i p) i p ≡ true
   unfolding isLink
   link-own i p = sameVertex-refl (linkOf seg i p)
 
   -- the last peer of an entry with its peering end, and the first entry with it
-  peer-last : (i p : ℕ) → p < peerCountOf seg i → any (isLink seg (linkOf seg i p) i) (range (p + 1) (peerCountOf seg i - (p + 1))) ≡ false
+  pub peer-last : (i p : ℕ) → p < peerCountOf seg i → any (isLink seg (linkOf seg i p) i) (range (p + 1) (peerCountOf seg i - (p + 1))) ≡ false
       → peerLinked seg (linkOf seg i p) i ≡ suc p
   unfolding peerLinked
   peer-last i p l h = last-is (isLink seg (linkOf seg i p) i) p (peerCountOf seg i) l (link-own i p) h

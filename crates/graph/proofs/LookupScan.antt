@@ -298,3 +298,58 @@ module _ (p : ℕ → Bool) where
       go false q =
           let z : lastWith p 0 ≡ 0 = unfold lastWith in refl in
           sym (le-ltb 0 (lastWith p n) (omega (arith, ap (lastWith p) e, last-skip 0 n q)))
+
+-- ---- the turns of a scan
+
+-- up: nothing below i passes
+pub record Scanning (p : ℕ → Bool) (n i : ℕ) : Type 0 where
+  pub within : i ≤ n
+  pub same : firstWith p 0 n ≡ firstWith p i (n - i)
+
+-- down: nothing from j on passes
+pub record Sinking (p : ℕ → Bool) (n j : ℕ) : Type 0 where
+  pub within : j ≤ n
+  pub same : lastWith p n ≡ lastWith p j
+
+module _ (p : ℕ → Bool) (n : ℕ) where
+  pub scan-start : Scanning p n 0
+  scan-start = let e : n ≡ n - 0 = omega arith in record { within = omega arith; same = ap (firstWith p 0) e }
+
+  pub scan-stop : (i : ℕ) → Scanning p n i → i < n → p i ≡ true → i ≡ firstWith p 0 n
+  scan-stop i s l h =
+      let e : n - i ≡ suc (n - (i + 1)) = omega arith in
+      sym (s .same ∙ ap (firstWith p i) e ∙ stop)
+    where
+      stop : firstWith p i (suc (n - (i + 1))) ≡ i
+      stop = unfold firstWith in ap (λ x. if x then i else firstWith p (i + 1) (n - (i + 1))) h
+
+  pub scan-turn : (i : ℕ) → Scanning p n i → i < n → p i ≡ false → Scanning p n (i + 1)
+  scan-turn i s l h =
+      let e : n - i ≡ suc (n - (i + 1)) = omega arith in
+      record { within = omega arith; same = s .same ∙ ap (firstWith p i) e ∙ turn }
+    where
+      turn : firstWith p i (suc (n - (i + 1))) ≡ firstWith p (i + 1) (n - (i + 1))
+      turn = unfold firstWith in ap (λ x. if x then i else firstWith p (i + 1) (n - (i + 1))) h
+
+  pub scan-end : (i : ℕ) → Scanning p n i → n ≤ i → i ≡ firstWith p 0 n
+  scan-end i s l = let e : n - i ≡ 0 = omega arith in sym (s .same ∙ ap (firstWith p i) e ∙ end)
+    where
+      end : firstWith p i 0 ≡ i
+      end = unfold firstWith in refl
+
+  pub sink-start : (j : ℕ) → j ≡ n → Sinking p n j
+  sink-start j q = record { within = omega arith; same = ap (lastWith p) (sym q) }
+
+  pub sink-stop : (j : ℕ) → Sinking p n j → 0 < j → p (j - 1) ≡ true → j ≡ lastWith p n
+  sink-stop j s l h = let e : j ≡ suc (j - 1) = omega arith in sym (s .same ∙ ap (lastWith p) e ∙ last-stop p (j - 1) h ∙ sym e)
+
+  pub sink-turn : (j : ℕ) → Sinking p n j → 0 < j → p (j - 1) ≡ false → Sinking p n (j - 1)
+  sink-turn j s l h =
+      let e : j ≡ suc (j - 1) = omega arith in
+      record { within = omega arith; same = s .same ∙ ap (lastWith p) e ∙ last-step p (j - 1) h }
+
+  pub sink-end : (j : ℕ) → Sinking p n j → j ≤ 0 → 0 ≡ lastWith p n
+  sink-end j s l = let e : j ≡ 0 = omega arith in sym (s .same ∙ ap (lastWith p) e ∙ end)
+    where
+      end : lastWith p 0 ≡ 0
+      end = unfold lastWith in refl

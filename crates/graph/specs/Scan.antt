@@ -49,6 +49,12 @@ module _ (seg : Segment) where
   unfoldable pub peerEdgeAt : Vertex → Vertex → ℕ → ℕ → ℕ → List Edge
   peerEdgeAt v w weight i q = if ltb i (entryCount seg) then edgeOf seg v w weight i q ∷ [] else []
 
+  -- the edge down to the leaf over a link, at the first entry that has it
+  unfoldable pub downPeerEdge : Vertex → Vertex → Vertex → List Edge
+  downPeerEdge v w l =
+      let i : ℕ = entryLinked l (entryCount seg) in
+      peerEdgeAt v w (entryCount seg - 1 - i) i (peerLinked l i)
+
   -- ---- a core segment
 
   unfoldable pub coreEdge : IsdAsn → IsdAsn → List Edge

@@ -19,7 +19,6 @@ ghost use Rattle.graph.specs.Prepared.{Flagged, Prepared};
 use crate::Found;
 use crate::edges;
 use crate::edges::PLACES;
-use crate::segment;
 use crate::slots;
 use spec::Edge;
 use spec::IsdAsn;

@@ -1,11 +1,13 @@
+-- `same_as` meets its contract.
+-- Assumes nothing.
+use mathlib.Core.Path.{refl}
+use Rattle.spec.specs.Edges.{sameAs}
 use Rattle.graph.proofs.edges.same_as.Statement.{statement}
 use Rattle.graph.proofs.edges.same_as.Tie as tie
-use Rattle.graph.proofs.edges.same_as.Reads as reads
-use Rattle.graph.proofs.edges.same_as.Lts as lts
 
--- src/edges.rt:17:1
 returns : tie.Need-returns
-returns c = ?
+unfolding sameAs
+returns c = refl
 
 pub same-as-spec : {M : Type 1} → statement M
 same-as-spec = tie.close (tie.spec returns)
