@@ -8,6 +8,7 @@ ghost use Rattle.spec.specs.declared.Verdict.the-variants.{Accepted};
 ghost use Rattle.spec.specs.Book.{verdict};
 ghost use Rattle.spec.specs.Records.{slots};
 ghost use Rattle.spec.specs.Answers.{listing};
+
 mod edges;
 mod search;
 mod slots;
@@ -43,7 +44,7 @@ fn list_accepted(src: IsdAsn, dst: IsdAsn, book: &[u8], out: &mut [u8]) -> ListA
     ensures { λ r. ⌜ (r, now (out .exit)) ≡ listing sha256 (now (book .entry)) src dst (length (now (out .entry))) ⌝ }
 {
     let room = slots_of(out.len());
-    let table = segment::offsets::entry_offsets(book);
+    let table = segment::entry_offsets(book);
     let n = search::search(book, &table, src, dst, out, room);
     if room < n {
         octets::zero(out, 0);
@@ -59,7 +60,7 @@ fn list_accepted(src: IsdAsn, dst: IsdAsn, book: &[u8], out: &mut [u8]) -> ListA
 pub fn list(src: IsdAsn, dst: IsdAsn, book: &[u8], out: &mut [u8]) -> ListAnswer
     ensures { λ r. ⌜ (r, now (out .exit)) ≡ listing sha256 (now (book .entry)) src dst (length (now (out .entry))) ⌝ }
 {
-    let v = segment::answer::verdict(book);
+    let v = segment::verdict(book);
     if let Verdict::Refused(r) = v {
         octets::zero(out, 0);
         return ListAnswer::Refused(r);
