@@ -3,7 +3,7 @@
 use mathlib.Core.Path.{_≡_, refl, sym, ap, ap₂, _∙_}
 use mathlib.Core.Bool.{Bool, true, false, _&&_, not}
 use mathlib.Core.List.{List, [], _∷_, map}
-use Prim.Native.Nat.{ℕ, zero, suc, _+_, _-_, _≤_, _<_, min}
+use Prim.Native.Nat.{ℕ, suc, _+_, _-_, _≤_, _<_, min}
 use native.Mathlib.Omega.{arith}
 use lib.ListN.{length, getD, take, drop, length-take, length-drop, drop-of-length-le}
 use lib.Seq.{drop-cons, take-all}
@@ -198,7 +198,7 @@ module _ (b : List ℕ) (k j : ℕ) where
 
     pub same-heads : heads ≡ true → (at n start m : ℕ) → at ≡ bodyOffset b k → n ≡ bodyLengthAt b k → start ≡ bodyOffset b j → m ≡ bodyLengthAt b j
         → (bodies : Bool) → bodies ≡ sameParts b at n start m → repeats b k j ≡ bodies
-    same-heads q at n start m ea en es′ em bodies e = repeats-is before ∙ by-bodies b k j (sym es ∙ q) ∙ cc
+    same-heads q at n start m ea en est em bodies e = repeats-is before ∙ by-bodies b k j (sym es ∙ q) ∙ cc
 
   repeats-not : k ≤ j → repeats b k j ≡ false
   unfolding repeats isEarlier segmentAt
