@@ -3,7 +3,7 @@
 // writes, which takes the records and the book from this file, and sorts by a key of its own, with
 // SHA-256 from Python's hashlib. The keys that decide in `KEYS`, `POSITIONS` and `PART` were worked
 // out by hand too.
-ghost use Prim.Native.Nat.{_≤_, _<_};
+ghost use Prim.Native.Nat.{_<_};
 
 // Six segments of one entry. The entries at positions 1 and 4 are the same, the timestamps are not: one
 // fingerprint at two positions.
