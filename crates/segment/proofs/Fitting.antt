@@ -7,13 +7,12 @@ use native.Mathlib.Nat.{add-zero}
 use native.Mathlib.Numerals.{add-one}
 use native.Mathlib.Omega.{arith}
 use lib.ListN.{length, getD, length-map}
-use Rattle.spec.specs.declared.Verdict.the-variants.{Accepted}
 use Rattle.spec.specs.Limits.{entrySize, maxBook, maxSegments}
 use Rattle.spec.specs.Basics.{range}
-use Rattle.spec.specs.Book.{Entry, segmentCount, entryCountAt, bodyOffset, peerCount, entryEnd, peerOffset, peerEntryAt, asEntryAt, entryAt, entryOffset, segmentAt, verdict}
+use Rattle.spec.specs.Book.{Entry, segmentCount, entryCountAt, bodyOffset, peerCount, entryEnd, peerOffset, peerEntryAt, peerOfEntryAt, asEntryAt, entryAt, entryOffset, segmentAt}
 use Rattle.spec.specs.Edges.{noPeer, entryOf, peerOf}
 use Rattle.spec.proofs.Lists.{length-range}
-use Rattle.spec.proofs.BookLaws.{AcceptedBook, accepted}
+use Rattle.spec.proofs.BookLaws.{AcceptedBook}
 use Rattle.spec.proofs.BodyLaws.{entry-at, entry-place, body-end}
 
 pub offset-more : (b : List ℕ) (at i : ℕ) → entryOffset b at (i + 1) ≡ entryEnd b (entryOffset b at i)
@@ -30,8 +29,8 @@ pub offset-small : (b : List ℕ) (a : AcceptedBook b) (k : ℕ) (h : k < segmen
     → entryOffset b (bodyOffset b k) i + entrySize ≤ maxBook
 offset-small b a k h i l = omega (arith, entry-place b a k h i l .entry, body-end b a k h, a .small)
 
-pub position-small : (b : List ℕ) → verdict b ≡ Accepted → (k : ℕ) → k < segmentCount b → k < maxSegments
-position-small b q k h = omega (arith, accepted b q .crowd)
+pub position-small : (b : List ℕ) → AcceptedBook b → (k : ℕ) → k < segmentCount b → k < maxSegments
+position-small b a k h = omega (arith, a .crowd)
 
 -- ---- what the definition's segments hold
 
@@ -51,8 +50,10 @@ module _ {A : Type 0} (f : ℕ → A) where
   map-range-at j (suc n) zero d h = ap f (sym (add-zero j))
   map-range-at j (suc n) (suc i) d h = map-range-at (j + 1) n i d (omega arith) ∙ ap f (omega arith)
 
+-- peer p of it is what `peer_entry` reads at its place
 pub peer-read : (b : List ℕ) (k i p : ℕ) → i < entryCountAt b k → p < peerCount b (entryOffset b (bodyOffset b k) i)
     → peerOf (segmentAt b k) i p ≡ peerEntryAt b (peerOffset (entryOffset b (bodyOffset b k) i) p)
-unfolding peerOf entryAt
+unfolding peerOf entryAt peerOfEntryAt
 peer-read b k i p h l =
-    rw (entry-at b k i h) (map-range-at (λ q. peerEntryAt b (peerOffset (entryOffset b (bodyOffset b k) i) q)) 0 _ p noPeer l ∙ ap (λ q. peerEntryAt b (peerOffset (entryOffset b (bodyOffset b k) i) q)) (omega arith))
+    let at : ℕ = entryOffset b (bodyOffset b k) i in
+    rw (entry-at b k i h) (map-range-at (peerOfEntryAt b at) 0 (peerCount b at) p noPeer l ∙ ap (peerOfEntryAt b at) (omega arith))

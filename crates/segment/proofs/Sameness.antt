@@ -1,60 +1,95 @@
 -- Equal segments: what each test of the comparison settles, and the turns of its loops.
 -- Assumes nothing.
 use mathlib.Core.Path.{_≡_, refl, sym, ap, ap₂, _∙_}
-use mathlib.Core.Bool.{Bool, true, false, _&&_, _||_, not}
+use mathlib.Core.Bool.{Bool, true, false, _&&_, not}
 use mathlib.Core.List.{List, [], _∷_, map}
-use Prim.Native.Nat.{ℕ, zero, suc, _+_, _-_, _≤_, _<_}
-use native.Mathlib.Numerals.{add-one}
+use Prim.Native.Nat.{ℕ, zero, suc, _+_, _-_, _≤_, _<_, min}
 use native.Mathlib.Omega.{arith}
-use lib.ListN.{length, getD, take, drop, length-take, length-drop}
-use lib.Seq.{drop-cons}
+use lib.ListN.{length, getD, take, drop, length-take, length-drop, drop-of-length-le}
+use lib.Seq.{drop-cons, take-all}
 use lib.Dec.{ltb, eqb}
-use borrow.Author.Tests.{lt-ltb, le-ltb, eq-eqb, ne-eqb, eqb-true}
+use borrow.Author.Tests.{lt-ltb, le-ltb, ltb-true, ltb-false, eq-eqb, ne-eqb}
 use Rattle.spec.specs.Basics.{if_then_else_, any, filter, range, sameList}
-use Rattle.spec.specs.Book.{Segment, cores, segmentCount, timestampAt, idAt, bodyLengthAt, bodyOffset, segmentAt, segments}
-use Rattle.spec.specs.Edges.{sameBool, sameSegment, firsts}
-use Rattle.spec.proofs.BookLaws.{AcceptedBook}
-use Rattle.segment.specs.Same.{samePart, isFirst}
-use Rattle.spec.proofs.BodyLaws.{body-end}
+use Rattle.spec.specs.Book.{cores, segmentCount, timestampAt, idAt, bodyLengthAt, bodyOffset, segmentAt, segments}
+use Rattle.spec.specs.Edges.{sameBool, sameSegment, isEarlier, isFirst, firsts}
+use Rattle.segment.specs.Same.{sameHead, sameParts}
+use Rattle.segment.proofs.Turns.{one-less, any-none, any-done}
 
 -- ---- bytes
-
-one-less : (n k : ℕ) → k < n → n - k ≡ suc (n - (k + 1))
-one-less n k h = omega arith
 
 -- a part of at least one byte starts with the byte at its offset
 part-cons : (b : List ℕ) (i n : ℕ) → i < length b → take (suc n) (drop i b) ≡ getD b i 0 ∷ take n (drop (suc i) b)
 part-cons b i n h = ap (take (suc n)) (drop-cons b i 0 h)
 
-module _ (b : List ℕ) (i j n m : ℕ) where
-  turn : m < n → i + n ≤ length b → j + n ≤ length b
-      → samePart b (i + m) (j + m) (n - m) ≡ (eqb (getD b (i + m) 0) (getD b (j + m) 0) && samePart b (i + (m + 1)) (j + (m + 1)) (n - (m + 1)))
-  unfolding samePart sameList
-  turn h g l =
-      let e : suc (i + m) ≡ i + (m + 1) = omega arith in
-      let f : suc (j + m) ≡ j + (m + 1) = omega arith in
-      rw (one-less n m h, part-cons b (i + m) (n - (m + 1)) (omega arith), part-cons b (j + m) (n - (m + 1)) (omega arith), e, f)
+-- the n bytes at i and at j, less the first m
+pub sameFrom : List ℕ → ℕ → ℕ → ℕ → ℕ → Bool
+sameFrom b i j n m = sameParts b (i + m) (n - m) (j + m) (n - m)
 
-  pub part-next : m < n → i + n ≤ length b → j + n ≤ length b → getD b (i + m) 0 ≡ getD b (j + m) 0
-      → samePart b (i + m) (j + m) (n - m) ≡ samePart b (i + (m + 1)) (j + (m + 1)) (n - (m + 1))
-  part-next h g l e = turn h g l ∙ rw (eq-eqb (getD b (i + m) 0) (getD b (j + m) 0) e)
-
-  pub part-differs : m < n → i + n ≤ length b → j + n ≤ length b → (getD b (i + m) 0 ≡ getD b (j + m) 0 → ⊥)
-      → samePart b (i + m) (j + m) (n - m) ≡ false
-  part-differs h g l e = turn h g l ∙ rw (ne-eqb (getD b (i + m) 0) (getD b (j + m) 0) e)
-
-  pub part-same : n ≤ m → samePart b (i + m) (j + m) (n - m) ≡ true
-  unfolding samePart sameList
-  part-same h = let e : n - m ≡ 0 = omega arith in rw e
-
-pub part-whole : (b : List ℕ) (i j n : ℕ) → samePart b i j n ≡ samePart b (i + 0) (j + 0) (n - 0)
-part-whole b i j n =
+pub from-start : (b : List ℕ) (i j n : ℕ) → sameParts b i n j n ≡ sameFrom b i j n 0
+unfolding sameFrom
+from-start b i j n =
     let e : i + 0 ≡ i = omega arith in
     let f : j + 0 ≡ j = omega arith in
     let g : n - 0 ≡ n = omega arith in
     rw (e, f, g)
 
--- ---- segments
+module _ (b : List ℕ) (i j n m : ℕ) where
+  turn : m < n → i + n ≤ length b → j + n ≤ length b
+      → sameFrom b i j n m ≡ (eqb (getD b (i + m) 0) (getD b (j + m) 0) && sameFrom b i j n (m + 1))
+  unfolding sameFrom sameParts sameList
+  turn h g l =
+      let e : suc (i + m) ≡ i + (m + 1) = omega arith in
+      let f : suc (j + m) ≡ j + (m + 1) = omega arith in
+      rw (one-less n m h, part-cons b (i + m) (n - (m + 1)) (omega arith), part-cons b (j + m) (n - (m + 1)) (omega arith), e, f)
+
+  pub bytes-next : m < n → i + n ≤ length b → j + n ≤ length b → getD b (i + m) 0 ≡ getD b (j + m) 0
+      → sameFrom b i j n m ≡ sameFrom b i j n (m + 1)
+  bytes-next h g l e = turn h g l ∙ rw (eq-eqb (getD b (i + m) 0) (getD b (j + m) 0) e)
+
+  pub bytes-differ : m < n → i + n ≤ length b → j + n ≤ length b → (getD b (i + m) 0 ≡ getD b (j + m) 0 → ⊥) → sameFrom b i j n m ≡ false
+  bytes-differ h g l e = turn h g l ∙ rw (ne-eqb (getD b (i + m) 0) (getD b (j + m) 0) e)
+
+  pub bytes-same : n ≤ m → sameFrom b i j n m ≡ true
+  unfolding sameFrom sameParts sameList
+  bytes-same h = let e : n - m ≡ 0 = omega arith in rw e
+
+-- ---- parts, as much of them as lies in the book
+
+take-least : (n : ℕ) (xs : List ℕ) → take n xs ≡ take (min n (length xs)) xs
+take-least n xs = go (ltb (length xs) n) refl
+  where
+    go : (t : Bool) → ltb (length xs) n ≡ t → take n xs ≡ take (min n (length xs)) xs
+    go true q =
+        let h : length xs < n = ltb-true _ _ q in
+        take-all n xs (omega arith) ∙ sym (take-all (min n (length xs)) xs (omega arith))
+    go false q =
+        let h : n ≤ length xs = ltb-false _ _ q in
+        let e : n ≡ min n (length xs) = omega arith in
+        ap (λ m. take m xs) e
+
+drop-least : (i : ℕ) (xs : List ℕ) → drop i xs ≡ drop (min i (length xs)) xs
+drop-least i xs = go (ltb (length xs) i) refl
+  where
+    go : (t : Bool) → ltb (length xs) i ≡ t → drop i xs ≡ drop (min i (length xs)) xs
+    go true q =
+        let h : length xs < i = ltb-true _ _ q in
+        drop-of-length-le xs {i = i} (omega arith) ∙ sym (drop-of-length-le xs {i = min i (length xs)} (omega arith))
+    go false q =
+        let h : i ≤ length xs = ltb-false _ _ q in
+        let e : i ≡ min i (length xs) = omega arith in
+        ap (λ m. drop m xs) e
+
+part-least : (b : List ℕ) (i n p u : ℕ) → p ≡ min i (length b) → u ≡ min n (length b - p) → take n (drop i b) ≡ take u (drop p b)
+part-least b i n p u e f =
+    ap (take n) (drop-least i b ∙ ap (λ m. drop m b) (sym e))
+    ∙ take-least n (drop p b)
+    ∙ ap (λ m. take m (drop p b)) (g ∙ sym f)
+  where
+    g : min n (length (drop p b)) ≡ min n (length b - p)
+    g = rw length-drop
+
+part-length : (b : List ℕ) (n p u : ℕ) → u ≡ min n (length b - p) → length (take u (drop p b)) ≡ u
+part-length b n p u e = simp (length-take, length-drop) (omega arith)
 
 same-length : (xs ys : List ℕ) → sameList xs ys ≡ true → length xs ≡ length ys
 unfolding sameList
@@ -71,68 +106,109 @@ false-from : (t : Bool) → (t ≡ true → ⊥) → t ≡ false
 false-from true f = absurd (f refl)
 false-from false f = refl
 
+module _ (b : List ℕ) (i m j n p u q v : ℕ) (ep : p ≡ min i (length b)) (eu : u ≡ min m (length b - p)) (eq : q ≡ min j (length b)) (ev : v ≡ min n (length b - q)) where
+  parts-least : sameParts b i m j n ≡ sameParts b p u q v
+  unfolding sameParts
+  parts-least = ap₂ sameList (part-least b i m p u ep eu) (part-least b j n q v eq ev)
+
+  pub parts-bytes : u ≡ v → sameParts b i m j n ≡ sameParts b p u q u
+  parts-bytes e = parts-least ∙ ap (sameParts b p u q) (sym e)
+
+  pub parts-differ : (u ≡ v → ⊥) → sameParts b i m j n ≡ false
+  unfolding sameParts
+  parts-differ d =
+      parts-least
+      ∙ false-from (sameList (take u (drop p b)) (take v (drop q b))) (λ r.
+      d (sym (part-length b m p u eu) ∙ same-length (take u (drop p b)) (take v (drop q b)) r ∙ part-length b n q v ev))
+
+-- ---- segments
+
 module _ (b : List ℕ) (j k : ℕ) where
-  bodies : Bool
-  bodies = sameList (take (bodyLengthAt b j) (drop (bodyOffset b j) b)) (take (bodyLengthAt b k) (drop (bodyOffset b k) b))
+  pub other-id : (idAt b j ≡ idAt b k → ⊥) → sameHead b j k ≡ false
+  unfolding sameHead
+  other-id h = rw (ne-eqb (idAt b j) (idAt b k) h) (go (sameBool (ltb j (cores b)) (ltb k (cores b))) (eqb (timestampAt b j) (timestampAt b k)))
+    where
+      go : (s t : Bool) → (s && t && false) ≡ false
+      go false t = refl
+      go true false = refl
+      go true true = refl
 
-  whole : sameSegment (segmentAt b j) (segmentAt b k)
-      ≡ (sameBool (ltb j (cores b)) (ltb k (cores b)) && eqb (timestampAt b j) (timestampAt b k) && eqb (idAt b j) (idAt b k) && bodies)
-  unfolding sameSegment segmentAt bodies
-  whole = refl
+  pub other-time : (timestampAt b j ≡ timestampAt b k → ⊥) → sameHead b j k ≡ false
+  unfolding sameHead
+  other-time h = rw (ne-eqb (timestampAt b j) (timestampAt b k) h) (go (sameBool (ltb j (cores b)) (ltb k (cores b))) (eqb (idAt b j) (idAt b k)))
+    where
+      go : (s t : Bool) → (s && false && t) ≡ false
+      go false t = refl
+      go true t = refl
 
-  pub other-kind : sameBool (ltb j (cores b)) (ltb k (cores b)) ≡ false → sameSegment (segmentAt b j) (segmentAt b k) ≡ false
-  other-kind h = whole ∙ rw h
+  pub by-kind : idAt b j ≡ idAt b k → timestampAt b j ≡ timestampAt b k → sameHead b j k ≡ sameBool (ltb j (cores b)) (ltb k (cores b))
+  unfolding sameHead
+  by-kind e h = rw (eq-eqb (timestampAt b j) (timestampAt b k) h, eq-eqb (idAt b j) (idAt b k) e) (go (sameBool (ltb j (cores b)) (ltb k (cores b))))
+    where
+      go : (s : Bool) → (s && true && true) ≡ s
+      go false = refl
+      go true = refl
 
-  module _ (kind : sameBool (ltb j (cores b)) (ltb k (cores b)) ≡ true) where
-    pub other-time : (timestampAt b j ≡ timestampAt b k → ⊥) → sameSegment (segmentAt b j) (segmentAt b k) ≡ false
-    other-time h = whole ∙ rw (kind, ne-eqb (timestampAt b j) (timestampAt b k) h)
+  -- equal segments have equal heads and bodies
+  segment-is : sameSegment (segmentAt b j) (segmentAt b k)
+      ≡ (sameHead b j k && sameParts b (bodyOffset b j) (bodyLengthAt b j) (bodyOffset b k) (bodyLengthAt b k))
+  unfolding sameSegment segmentAt sameHead sameParts
+  segment-is =
+      go (sameBool (ltb j (cores b)) (ltb k (cores b))) (eqb (timestampAt b j) (timestampAt b k)) (eqb (idAt b j) (idAt b k))
+      (sameList (take (bodyLengthAt b j) (drop (bodyOffset b j) b)) (take (bodyLengthAt b k) (drop (bodyOffset b k) b)))
+    where
+      go : (s t u v : Bool) → (s && t && u && v) ≡ ((s && t && u) && v)
+      go false t u v = refl
+      go true false u v = refl
+      go true true u v = refl
 
-    module _ (time : timestampAt b j ≡ timestampAt b k) where
-      pub other-id : (idAt b j ≡ idAt b k → ⊥) → sameSegment (segmentAt b j) (segmentAt b k) ≡ false
-      other-id h = whole ∙ rw (kind, eq-eqb (timestampAt b j) (timestampAt b k) time, ne-eqb (idAt b j) (idAt b k) h)
+  pub other-head : sameHead b j k ≡ false → sameSegment (segmentAt b j) (segmentAt b k) ≡ false
+  other-head h = segment-is ∙ rw h
 
-      module _ (id : idAt b j ≡ idAt b k) where
-        same-head : sameSegment (segmentAt b j) (segmentAt b k) ≡ bodies
-        same-head = whole ∙ rw (kind, eq-eqb (timestampAt b j) (timestampAt b k) time, eq-eqb (idAt b j) (idAt b k) id)
-
-        pub by-bytes : bodyLengthAt b j ≡ bodyLengthAt b k → sameSegment (segmentAt b j) (segmentAt b k) ≡ samePart b (bodyOffset b j) (bodyOffset b k) (bodyLengthAt b j)
-        unfolding bodies samePart
-        by-bytes h = same-head ∙ rw (← h)
-
-        pub other-length : AcceptedBook b → j < segmentCount b → k < segmentCount b → (bodyLengthAt b j ≡ bodyLengthAt b k → ⊥)
-            → sameSegment (segmentAt b j) (segmentAt b k) ≡ false
-        unfolding bodies
-        other-length a u v h =
-            same-head
-            ∙ false-from bodies (λ q.
-            let e : length (take (bodyLengthAt b j) (drop (bodyOffset b j) b)) ≡ length (take (bodyLengthAt b k) (drop (bodyOffset b k) b)) = same-length _ _ q in
-            h (omega (arith, simp (length-take, length-drop) at e, body-end b a j u, body-end b a k v)))
+  pub by-bodies : sameHead b j k ≡ true
+      → sameSegment (segmentAt b j) (segmentAt b k) ≡ sameParts b (bodyOffset b j) (bodyLengthAt b j) (bodyOffset b k) (bodyLengthAt b k)
+  by-bodies h = segment-is ∙ rw h
 
 -- ---- the first of equals
 
--- the segment at k stands again at a lower position, one of `left` from j on
-pub repeatFrom : List ℕ → ℕ → ℕ → ℕ → Bool
-repeatFrom b k j left = any (λ t. ltb (t .position) k && sameSegment (segmentAt b k) t) (map (segmentAt b) (range j left))
+-- the segment at j is equal to the one at k and stands before it
+pub repeats : List ℕ → ℕ → ℕ → Bool
+repeats b k j = isEarlier (segmentAt b k) (segmentAt b j)
 
-pub first-all : (b : List ℕ) (k : ℕ) → isFirst b k ≡ not (repeatFrom b k 0 (segmentCount b - 0))
-unfolding isFirst segments repeatFrom
-first-all b k = let e : segmentCount b - 0 ≡ segmentCount b = omega arith in rw e
+any-map : {A B : Type 0} (p : B → Bool) (f : A → B) (xs : List A) → any p (map f xs) ≡ any (λ x. p (f x)) xs
+unfolding any
+any-map p f [] = refl
+any-map p f (x ∷ xs) = rw (any-map p f xs)
 
-module _ (b : List ℕ) (n k j : ℕ) where
-  repeat-turn : j < n → j < k → repeatFrom b k j (n - j) ≡ (sameSegment (segmentAt b k) (segmentAt b j) || repeatFrom b k (j + 1) (n - (j + 1)))
-  unfolding repeatFrom any range segmentAt
-  repeat-turn h l = rw (one-less n j h, lt-ltb j k l)
+pub first-all : (b : List ℕ) (k : ℕ) → isFirst (segments b) (segmentAt b k) ≡ not (any (repeats b k) (range 0 (segmentCount b - 0)))
+unfolding isFirst segments repeats
+first-all b k =
+    let e : segmentCount b - 0 ≡ segmentCount b = omega arith in
+    rw e (ap not (any-map (isEarlier (segmentAt b k)) (segmentAt b) (range 0 (segmentCount b))))
 
-  pub repeat-here : j < n → j < k → sameSegment (segmentAt b k) (segmentAt b j) ≡ true → repeatFrom b k j (n - j) ≡ true
-  repeat-here h l q = repeat-turn h l ∙ rw q
+module _ (b : List ℕ) (k j : ℕ) where
+  repeats-is : j < k → repeats b k j ≡ sameSegment (segmentAt b k) (segmentAt b j)
+  unfolding repeats isEarlier segmentAt
+  repeats-is h = rw (lt-ltb j k h)
 
-  pub repeat-next : j < n → j < k → sameSegment (segmentAt b k) (segmentAt b j) ≡ false → repeatFrom b k j (n - j) ≡ repeatFrom b k (j + 1) (n - (j + 1))
-  repeat-next h l q = repeat-turn h l ∙ rw q
+  pub repeats-head : j < k → sameHead b k j ≡ false → repeats b k j ≡ false
+  repeats-head h q = repeats-is h ∙ other-head b k j q
 
-pub repeat-none : (b : List ℕ) (k j left : ℕ) → k ≤ j → repeatFrom b k j left ≡ false
-unfolding repeatFrom any range segmentAt
-repeat-none b k j zero h = refl
-repeat-none b k j (suc left) h = rw (le-ltb j k h) (repeat-none b k (j + 1) left (omega arith))
+  pub repeats-body : j < k → sameHead b k j ≡ true
+      → repeats b k j ≡ sameParts b (bodyOffset b k) (bodyLengthAt b k) (bodyOffset b j) (bodyLengthAt b j)
+  repeats-body h q = repeats-is h ∙ by-bodies b k j q
+
+  repeats-not : k ≤ j → repeats b k j ≡ false
+  unfolding repeats isEarlier segmentAt
+  repeats-not h = rw (le-ltb j k h)
+
+-- past the last position that could repeat the segment
+pub repeats-done : (b : List ℕ) (n k j : ℕ) → min k n ≤ j → any (repeats b k) (range j (n - j)) ≡ false
+repeats-done b n k j h = go (ltb j k) refl
+  where
+    go : (t : Bool) → ltb j k ≡ t → any (repeats b k) (range j (n - j)) ≡ false
+    go true q = let l : j < k = ltb-true _ _ q in any-done (repeats b k) n j (omega arith)
+    go false q = let l : k ≤ j = ltb-false _ _ q in any-none (repeats b k) j (n - j) (λ i g. repeats-not b k i (omega arith))
 
 filter-map : {A B : Type 0} (f : A → B) (p : B → Bool) (xs : List A) → filter p (map f xs) ≡ map f (filter (λ x. p (f x)) xs)
 unfolding filter
@@ -145,6 +221,6 @@ filter-map f p (x ∷ xs) = go (p (f x)) (filter-map f p xs)
     go false e = e
 
 -- the segments that count, by position
-pub firsts-are : (b : List ℕ) → firsts (segments b) ≡ map (segmentAt b) (filter (isFirst b) (range 0 (segmentCount b)))
-unfolding firsts segments isFirst segmentAt
-firsts-are b = filter-map (segmentAt b) _ (range 0 (segmentCount b))
+pub firsts-are : (b : List ℕ) → firsts (segments b) ≡ map (segmentAt b) (filter (λ k. isFirst (segments b) (segmentAt b k)) (range 0 (segmentCount b)))
+unfolding firsts segments
+firsts-are b = filter-map (segmentAt b) (isFirst (map (segmentAt b) (range 0 (segmentCount b)))) (range 0 (segmentCount b))

@@ -1,11 +1,9 @@
 -- The turns of the loops that answer about a book: what a definition's recursion says at one step, by cases of the tests.
--- A loop that counts k up to n has n - k left.
 -- Assumes nothing.
 use mathlib.Core.Path.{_≡_, refl, sym, ap, _∙_}
 use mathlib.Core.Bool.{Bool, true, false, _||_, not}
 use mathlib.Core.List.{List}
-use Prim.Native.Nat.{ℕ, zero, suc, _+_, _-_, _*_, _≤_, _<_}
-use native.Mathlib.Nat.{add-assoc}
+use Prim.Native.Nat.{ℕ, zero, suc, _+_, _-_, _≤_, _<_}
 use native.Mathlib.Numerals.{add-one}
 use native.Mathlib.Omega.{arith}
 use lib.ListN.{length}
@@ -17,7 +15,7 @@ use Rattle.spec.specs.declared.Verdict.{Verdict}
 use Rattle.spec.specs.declared.Verdict.the-variants.{Accepted, Refused}
 use Rattle.spec.specs.Limits.{sizesSize, maxBook, maxSegments, maxEntries, maxPeers, entrySize}
 use Rattle.spec.specs.Basics.{if_then_else_, any, range}
-use Rattle.spec.specs.Book.{segmentCount, bodyTotal, headOffset, entryCountAt, bodyLengthAt, lengthsBelow, bodyOffset, wholeLength, peerCount, entryEnd, entriesVerdict, bodyVerdict, bodiesVerdict, tooLong, verdict}
+use Rattle.spec.specs.Book.{segmentCount, bodyTotal, headOffset, entryCountAt, bodyLengthAt, lengthsBelow, bodyOffset, wholeLength, peerCount, entryEnd, entriesVerdict, bodyVerdict, bodiesVerdict, isLong, tooLong, verdict}
 
 -- ---- the entries of a body
 
@@ -66,7 +64,8 @@ pub body-more : (b : List ℕ) (k : ℕ) → bodyOffset b (k + 1) ≡ bodyOffset
 unfolding bodyOffset
 body-more b k = omega (arith, lengths-more b k)
 
-one-less : (n k : ℕ) → k < n → n - k ≡ suc (n - (k + 1))
+-- a loop that counts k up to n has n - k left
+pub one-less : (n k : ℕ) → k < n → n - k ≡ suc (n - (k + 1))
 one-less n k h = omega arith
 
 module _ (b : List ℕ) (n k : ℕ) where
@@ -87,28 +86,41 @@ module _ (b : List ℕ) (n k : ℕ) where
   unfolding bodiesVerdict
   bodies-done h = let e : n - k ≡ 0 = omega arith in rw e
 
+-- ---- a test over positions
+
+module _ (p : ℕ → Bool) (n k : ℕ) where
+  pub any-here : k < n → p k ≡ true → any p (range k (n - k)) ≡ true
+  unfolding any range
+  any-here h q = rw (one-less n k h, q)
+
+  pub any-next : k < n → p k ≡ false → any p (range k (n - k)) ≡ any p (range (k + 1) (n - (k + 1)))
+  unfolding any range
+  any-next h q = rw (one-less n k h, q)
+
+  pub any-done : n ≤ k → any p (range k (n - k)) ≡ false
+  unfolding any range
+  any-done h = let e : n - k ≡ 0 = omega arith in rw e
+
+-- it holds of none from k on
+pub any-none : (p : ℕ → Bool) (k left : ℕ) → ((i : ℕ) → k ≤ i → p i ≡ false) → any p (range k left) ≡ false
+unfolding any range
+any-none p k zero f = refl
+any-none p k (suc left) f = rw (f k (omega arith)) (any-none p (k + 1) left (λ i h. f i (omega arith)))
+
 -- ---- the heads
 
--- a head too long among `left` from k on
-pub longFrom : List ℕ → ℕ → ℕ → Bool
-longFrom b k left = any (λ i. ltb maxEntries (entryCountAt b i)) (range k left)
+pub long-all : (b : List ℕ) (n : ℕ) → n ≡ segmentCount b → tooLong b ≡ any (isLong b) (range 0 (n - 0))
+unfolding tooLong
+long-all b n h = ap (λ m. any (isLong b) (range 0 m)) (omega arith)
 
-pub long-all : (b : List ℕ) → tooLong b ≡ longFrom b 0 (segmentCount b - 0)
-unfolding tooLong longFrom
-long-all b = let e : segmentCount b - 0 ≡ segmentCount b = omega arith in rw e
+module _ (b : List ℕ) (k : ℕ) where
+  pub is-long : maxEntries < entryCountAt b k → isLong b k ≡ true
+  unfolding isLong
+  is-long h = lt-ltb maxEntries (entryCountAt b k) h
 
-module _ (b : List ℕ) (n k : ℕ) where
-  pub long-here : k < n → maxEntries < entryCountAt b k → longFrom b k (n - k) ≡ true
-  unfolding any range longFrom
-  long-here h l = rw (one-less n k h, lt-ltb maxEntries (entryCountAt b k) l)
-
-  pub long-next : k < n → entryCountAt b k ≤ maxEntries → longFrom b k (n - k) ≡ longFrom b (k + 1) (n - (k + 1))
-  unfolding any range longFrom
-  long-next h l = rw (one-less n k h, le-ltb maxEntries (entryCountAt b k) l)
-
-  pub long-none : n ≤ k → longFrom b k (n - k) ≡ false
-  unfolding any range longFrom
-  long-none h = let e : n - k ≡ 0 = omega arith in rw e
+  pub not-long : entryCountAt b k ≤ maxEntries → isLong b k ≡ false
+  unfolding isLong
+  not-long h = le-ltb maxEntries (entryCountAt b k) h
 
 -- ---- the tests in order
 

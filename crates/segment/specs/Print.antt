@@ -1,14 +1,14 @@
 -- What a segment's fingerprint is taken of, entry by entry.
 -- Assumes nothing.
 use Prim.Native.Nat.{ℕ}
-use mathlib.Core.List.{List, _++_, flatMap}
-use Rattle.spec.specs.Octets.{octets2, octets8}
-use Rattle.spec.specs.Book.{Entry, entriesAt}
+use mathlib.Core.List.{List, flatMap}
+use Rattle.spec.specs.Book.{entriesAt}
+use Rattle.spec.specs.Order.{entryInput}
 
--- an entry's AS, ingress and egress
-unfoldable pub entryInput : Entry → List ℕ
-entryInput x = octets8 (x .own .local .0) ++ octets2 (x .own .hop .ingress) ++ octets2 (x .own .hop .egress)
+-- how many bytes an entry gives: AS 8, ingress 2, egress 2
+abbrev pub inputSize : ℕ
+inputSize = 12
 
--- those of n entries from an offset on
+-- what n entries from an offset on give
 unfoldable pub inputs : List ℕ → ℕ → ℕ → List ℕ
 inputs b at n = flatMap entryInput (entriesAt b at n)

@@ -1,18 +1,18 @@
--- Equal segments, by position.
+-- The two halves of `sameSegment`, by position.
 -- Assumes nothing.
 use Prim.Native.Nat.{ℕ}
-use mathlib.Core.Bool.{Bool, _&&_, not}
+use mathlib.Core.Bool.{Bool, _&&_}
 use mathlib.Core.List.{List}
 use lib.ListN.{take, drop}
-use lib.Dec.{ltb}
-use Rattle.spec.specs.Basics.{any, sameList}
-use Rattle.spec.specs.Book.{Segment, segmentAt, segments}
-use Rattle.spec.specs.Edges.{sameSegment}
+use lib.Dec.{ltb, eqb}
+use Rattle.spec.specs.Basics.{sameList}
+use Rattle.spec.specs.Book.{cores, timestampAt, idAt}
+use Rattle.spec.specs.Edges.{sameBool}
 
--- the n bytes at i and those at j are the same
-unfoldable pub samePart : List ℕ → ℕ → ℕ → ℕ → Bool
-samePart b i j n = sameList (take n (drop i b)) (take n (drop j b))
+-- kind, timestamp and id
+unfoldable pub sameHead : List ℕ → ℕ → ℕ → Bool
+sameHead b j k = sameBool (ltb j (cores b)) (ltb k (cores b)) && eqb (timestampAt b j) (timestampAt b k) && eqb (idAt b j) (idAt b k)
 
--- no equal segment stands at a lower position
-unfoldable pub isFirst : List ℕ → ℕ → Bool
-isFirst b k = not (any (λ t. ltb (t .position) k && sameSegment (segmentAt b k) t) (segments b))
+-- the m bytes at i and the n at j, of either only those that lie in the book
+unfoldable pub sameParts : List ℕ → ℕ → ℕ → ℕ → ℕ → Bool
+sameParts b i m j n = sameList (take m (drop i b)) (take n (drop j b))

@@ -1,21 +1,28 @@
 // The fingerprint of a segment: SHA-256 over each entry's AS, ingress and egress, in order.
 ghost use mathlib.Core.Path.{_≡_};
-ghost use Prim.Native.Nat.{ℕ, _+_, _*_, _^_, _≤_, _<_};
+ghost use Prim.Native.Nat.{_+_, _*_, _^_, _≤_, _<_};
 ghost use lib.ListN.{length, getD, take};
 ghost use lib.Seq.{paste};
-ghost use Rattle.spec.specs.declared.Verdict.the-variants.{Accepted};
-ghost use Rattle.spec.specs.Book.{segmentCount, segmentAt, entryAt, verdict};
-ghost use Rattle.spec.specs.Order.{fingerprintInput};
+ghost use Rattle.spec.specs.Limits.{maxEntries};
+ghost use Rattle.spec.specs.Book.{segmentAt, entryAt};
+ghost use Rattle.spec.specs.Order.{entryInput, fingerprintInput};
 ghost use Rattle.sha256.specs.Message.{sha256};
-ghost use Rattle.spec.specs.Book.{entryOffset};
-ghost use Rattle.segment.specs.Print.{entryInput, inputs};
-use crate::answer;
+ghost use Rattle.segment.specs.Print.{inputSize, inputs};
+use crate::entries;
 use crate::heads;
+use crate::numbers::least;
+use crate::numbers::wide;
+use spec::Limits;
+
+// The bytes of an entry that its segment's fingerprint takes in, and of a segment's.
+const INPUT: usize = 12;
+
+const MESSAGE: usize = INPUT * Limits::ENTRIES;
 
 // Byte j of what the entry at an offset gives: its first 8 bytes, and the 4 at 14.
 fn input_byte(book: &[u8], at: usize, j: usize) -> u8
     requires { ⌜ at < 2 ^ 48 ⌝ }
-    requires { ⌜ j < 12 ⌝ }
+    requires { ⌜ j < inputSize ⌝ }
     ensures { λ r. ⌜ r ≡ getD (entryInput (entryAt (now (book .entry)) at)) j 0 ⌝ }
 {
     if j < 8 {
@@ -24,42 +31,41 @@ fn input_byte(book: &[u8], at: usize, j: usize) -> u8
     octets::byte(book, at + 6 + j)
 }
 
-fn put_entry(book: &[u8], message: &mut [u8; 192], place: usize, at: usize)
+fn put_entry(book: &[u8], message: &mut [u8; MESSAGE], place: usize, at: usize)
     requires { ⌜ at < 2 ^ 48 ⌝ }
-    requires { ⌜ (place ≤ 180) × (length (now message) ≡ 192) ⌝ }
-    ensures { λ r. ⌜ now (message .exit) ≡ paste (now (message .entry)) place (entryInput (entryAt (now (book .entry)) at)) 12 ⌝ }
+    requires { ⌜ (place + inputSize ≤ length (now message)) × (length (now message) ≡ inputSize * maxEntries) ⌝ }
+    ensures { λ r. ⌜ now (message .exit) ≡ paste (now (message .entry)) place (entryInput (entryAt (now (book .entry)) at)) inputSize ⌝ }
 {
     let mut j: usize = 0;
-    while j < 12 {
+    while j < INPUT {
         message[place + j] = input_byte(book, at, j);
         j += 1;
     }
 }
 
 // What `count` entries from `start` on give, and zeros.
-fn message(book: &[u8], start: usize, count: usize) -> [u8; 192]
-    requires { ⌜ count ≤ 16 ⌝ }
-    requires { ⌜ ((i : ℕ) → i < count → entryOffset (now book) start i < 2 ^ 16) ⌝ }
-    ensures { λ r. ⌜ take (12 * count) r ≡ inputs (now (book .entry)) start count ⌝ }
+fn message(book: &[u8], start: usize, count: usize) -> [u8; MESSAGE]
+    requires { ⌜ count ≤ maxEntries ⌝ }
+    requires { ⌜ start < 2 ^ 32 ⌝ }
+    ensures { λ r. ⌜ take (inputSize * count) r ≡ inputs (now (book .entry)) start count ⌝ }
 {
-    let mut m = [0u8; 192];
+    let mut m = [0u8; MESSAGE];
     let mut at = start;
     let mut i: usize = 0;
     while i < count {
-        put_entry(book, &mut m, 12 * i, at);
-        at = answer::entry_end(book, at);
+        put_entry(book, &mut m, INPUT * i, at);
+        at = entries::entry_end(book, at);
         i += 1;
     }
     m
 }
 
-pub fn fingerprint(book: &[u8], k: usize) -> [u8; 32]
-    requires { ⌜ verdict (now book) ≡ Accepted ⌝ }
-    requires { ⌜ k < segmentCount (now book) ⌝ }
-    ensures { λ r. ⌜ r ≡ sha256 (fingerprintInput (segmentAt (now (book .entry)) k)) ⌝ }
+// Of the entries past the limit, which an accepted book does not have, nothing is taken in.
+pub fn fingerprint(book: &[u8], k: u8) -> [u8; 32]
+    ensures { λ r. ⌜ r ≡ sha256 (take (inputSize * maxEntries) (fingerprintInput (segmentAt (now (book .entry)) k))) ⌝ }
 {
-    let count = heads::wide(heads::entry_count_at(book, k));
-    let m = message(book, heads::body_at(book, k), count);
-    let n = 12 * count;
+    let count = least(Limits::ENTRIES, wide(heads::entry_count_at(book, k)));
+    let m = message(book, heads::body_offset(book, k), count);
+    let n = INPUT * count;
     sha256::sha256(&m[..n])
 }

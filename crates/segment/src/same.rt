@@ -1,13 +1,14 @@
 // Equal segments: of the same kind, timestamp, id and body. They count once, under the first position.
 ghost use mathlib.Core.Path.{_≡_};
-ghost use Prim.Native.Nat.{ℕ, _+_, _*_, _^_, _≤_, _<_};
+ghost use Prim.Native.Nat.{_+_, _≤_};
 ghost use lib.ListN.{length};
 ghost use lib.Dec.{ltb};
-ghost use Rattle.spec.specs.declared.Verdict.the-variants.{Accepted};
-ghost use Rattle.spec.specs.Book.{cores, segmentCount, segmentAt, verdict};
-ghost use Rattle.spec.specs.Edges.{sameBool, sameSegment};
-ghost use Rattle.segment.specs.Same.{samePart, isFirst};
+ghost use Rattle.spec.specs.Book.{cores, segmentAt, segments};
+ghost use Rattle.spec.specs.Edges.{sameBool, sameSegment, isFirst};
+ghost use Rattle.segment.specs.Same.{sameHead, sameParts};
 use crate::heads;
+use crate::numbers::least;
+use crate::numbers::wide;
 
 fn same_bool(a: bool, b: bool) -> bool
     ensures { λ r. ⌜ r ≡ sameBool a b ⌝ }
@@ -16,17 +17,34 @@ fn same_bool(a: bool, b: bool) -> bool
 }
 
 // The segment at position k is a core segment.
-pub fn is_core(book: &[u8], k: usize) -> bool
+fn is_core(book: &[u8], k: u8) -> bool
     ensures { λ r. ⌜ r ≡ ltb k (cores (now (book .entry))) ⌝ }
 {
-    k < heads::wide(heads::cores(book))
+    (k as u16) < heads::cores(book)
+}
+
+// The segments at j and k are of the same kind, timestamp and id.
+fn same_head(book: &[u8], j: u8, k: u8) -> bool
+    ensures { λ r. ⌜ r ≡ sameHead (now (book .entry)) j k ⌝ }
+{
+    let id_j = heads::id_at(book, j);
+    let id_k = heads::id_at(book, k);
+    if id_j != id_k {
+        return false;
+    }
+    let stamp_j = heads::timestamp_at(book, j);
+    let stamp_k = heads::timestamp_at(book, k);
+    if stamp_j != stamp_k {
+        return false;
+    }
+    same_bool(is_core(book, j), is_core(book, k))
 }
 
 // The n bytes at i and those at j are the same.
-fn same_part(book: &[u8], i: usize, j: usize, n: usize) -> bool
+fn same_bytes(book: &[u8], i: usize, j: usize, n: usize) -> bool
     requires { ⌜ i + n ≤ length (now book) ⌝ }
     requires { ⌜ j + n ≤ length (now book) ⌝ }
-    ensures { λ r. ⌜ r ≡ samePart (now (book .entry)) i j n ⌝ }
+    ensures { λ r. ⌜ r ≡ sameParts (now (book .entry)) i n j n ⌝ }
 {
     let mut m: usize = 0;
     while m < n {
@@ -38,43 +56,55 @@ fn same_part(book: &[u8], i: usize, j: usize, n: usize) -> bool
     true
 }
 
-pub fn same_segment(book: &[u8], j: usize, k: usize) -> bool
-    requires { ⌜ verdict (now book) ≡ Accepted ⌝ }
-    requires { ⌜ (j < segmentCount (now book)) × (k < segmentCount (now book)) ⌝ }
-    ensures { λ r. ⌜ r ≡ sameSegment (segmentAt (now (book .entry)) j) (segmentAt (now (book .entry)) k) ⌝ }
+// The m bytes at i and the n at j are the same; of either only those that lie in the book.
+fn same_parts(book: &[u8], i: usize, m: usize, j: usize, n: usize) -> bool
+    ensures { λ r. ⌜ r ≡ sameParts (now (book .entry)) i m j n ⌝ }
 {
-    if !same_bool(is_core(book, j), is_core(book, k)) {
+    let size = book.len();
+    let p = least(i, size);
+    let q = least(j, size);
+    let u = least(m, size - p);
+    let v = least(n, size - q);
+    if u != v {
         return false;
     }
-    let stamp_j = heads::timestamp_at(book, j);
-    let stamp_k = heads::timestamp_at(book, k);
-    if stamp_j != stamp_k {
-        return false;
-    }
-    let id_j = heads::id_at(book, j);
-    let id_k = heads::id_at(book, k);
-    if id_j != id_k {
-        return false;
-    }
-    let n_j = heads::wide(heads::body_length_at(book, j));
-    let n_k = heads::wide(heads::body_length_at(book, k));
-    if n_j != n_k {
-        return false;
-    }
-    same_part(book, heads::body_at(book, j), heads::body_at(book, k), n_j)
+    same_bytes(book, p, q, u)
 }
 
-// No equal segment stands at a lower position.
-pub fn is_first(book: &[u8], k: usize) -> bool
-    requires { ⌜ verdict (now book) ≡ Accepted ⌝ }
-    requires { ⌜ k < segmentCount (now book) ⌝ }
-    ensures { λ r. ⌜ r ≡ isFirst (now (book .entry)) k ⌝ }
+pub fn same_segment(book: &[u8], j: u8, k: u8) -> bool
+    ensures { λ r. ⌜ r ≡ sameSegment (segmentAt (now (book .entry)) j) (segmentAt (now (book .entry)) k) ⌝ }
 {
-    let mut j: usize = 0;
-    while j < k {
-        if same_segment(book, k, j) {
-            return false;
+    if !same_head(book, j, k) {
+        return false;
+    }
+    let m = wide(heads::body_length_at(book, j));
+    let n = wide(heads::body_length_at(book, k));
+    same_parts(
+        book,
+        heads::body_offset(book, j),
+        m,
+        heads::body_offset(book, k),
+        n,
+    )
+}
+
+// No equal segment of the book stands at a lower position. The offset of the body at j is carried along.
+pub fn is_first(book: &[u8], k: u8) -> bool
+    ensures { λ r. ⌜ r ≡ isFirst (segments (now (book .entry))) (segmentAt (now (book .entry)) k) ⌝ }
+{
+    let count = least(k as usize, heads::segment_count(book)) as u8;
+    let at = heads::body_offset(book, k);
+    let n = wide(heads::body_length_at(book, k));
+    let mut start = heads::body_offset(book, 0);
+    let mut j: u8 = 0;
+    while j < count {
+        let m = wide(heads::body_length_at(book, j));
+        if same_head(book, k, j) {
+            if same_parts(book, at, n, start, m) {
+                return false;
+            }
         }
+        start += m;
         j += 1;
     }
     true

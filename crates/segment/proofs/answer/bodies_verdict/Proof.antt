@@ -23,14 +23,14 @@ loop-holds c =
 
 returns : tie.Need-returns Inv-loop μ-loop
 returns c =
-    let l = c .before .before .before .before .before .before .before .before in
+    let l = c .before .before .before .before .before .before .before in
     let b = l .before .before .before .args .book .now in
     let e = c .enum-told .given .1 in
     sym (l .loop .inv .3 ∙ bodies-refused b (l .before .before .before .args .count) (l .loop .k) _ (omega arith) (body-says b 0 (l .loop .k) (l .loop .at) _ (l .loop .inv .2) (cc) ∙ e) ∙ sym e)
 
 loop-again : tie.Need-loop-again Inv-loop μ-loop
 loop-again c =
-    let l = c .before .before .before .before .before .before .before .before in
+    let l = c .before .before .before .before .before .before .before in
     let b = l .before .before .before .args .book .now in (
       omega arith,
       omega arith,
@@ -52,7 +52,6 @@ bodies-verdict-spec =
     (λ c κs. search needs)
     (λ c κs. search needs)
     (λ c. search needs)
-    (λ c κs. search needs)
     (λ c κs. search needs)
     (λ c κs. search needs)
     (λ c. search needs)

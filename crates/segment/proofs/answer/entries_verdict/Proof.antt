@@ -30,7 +30,7 @@ returns-3 c = sym (c .before .before .before .before .before .before .loop .inv 
 loop-again : tie.Need-loop-again Inv-loop μ-loop
 loop-again c =
     let l = c .before .before .before .before .before .before in
-    (omega arith, l .loop .inv .1 ∙ entries-next _ _ _ _ (omega arith) (omega arith) (omega arith) (omega arith) ∙ rw (c .before .entry-end .ensures))
+    (omega arith, l .loop .inv .1 ∙ entries-next _ _ _ _ (omega arith) (omega arith) (omega arith) (omega arith) ∙ rw (c .before .entry-end .ensures .0))
 
 returns-4 : tie.Need-returns-4 Inv-loop μ-loop
 returns-4 c = sym (c .before .before .loop .inv .1 ∙ bytes-left _ _ _ _ (omega arith) (omega arith))
@@ -48,6 +48,7 @@ entries-verdict-spec =
     (λ c. search needs)
     returns
     (λ c κs. search needs)
+    (λ c. search needs)
     returns-2
     (λ c κs. search needs)
     returns-3

@@ -3,29 +3,30 @@
 use mathlib.Core.Path.{_≡_, refl, sym, _∙_}
 use Prim.Native.Nat.{_-_, _≤_}
 use native.Mathlib.Omega.{arith}
-use Rattle.spec.specs.Book.{tooLong}
-use Rattle.segment.proofs.Turns.{longFrom, long-all, long-here, long-next, long-none}
+use Rattle.spec.specs.Basics.{any, range}
+use Rattle.spec.specs.Book.{isLong, tooLong}
+use Rattle.segment.proofs.Turns.{long-all, is-long, not-long, any-here, any-next, any-done}
 use borrow.Author.Needs.{needs}
 use Rattle.segment.proofs.answer.too_long.Statement.{statement}
 use Rattle.segment.proofs.answer.too_long.Tie as tie
 
 abbrev Inv-loop : tie.InvT-loop
-Inv-loop book count k₀ k = (k ≤ count) × (tooLong book ≡ longFrom book k (count - k))
+Inv-loop book count k₀ k = (k ≤ count) × (tooLong book ≡ any (isLong book) (range k (count - k)))
 
 abbrev μ-loop : tie.MeasureT-loop
 μ-loop book count k₀ k = count - k
 
 loop-holds : tie.Need-loop-holds Inv-loop μ-loop
-loop-holds c = (omega arith, cc (long-all (c .before .before .args .book .now)))
+loop-holds c = (omega arith, long-all _ _ (c .before .pre))
 
 returns : tie.Need-returns Inv-loop μ-loop
-returns c = sym (c .before .before .before .loop .inv .1 ∙ long-here _ _ _ (omega arith) (omega arith))
+returns c = sym (c .before .before .before .before .loop .inv .1 ∙ any-here _ _ _ (omega arith) (is-long _ _ (omega arith)))
 
 loop-again : tie.Need-loop-again Inv-loop μ-loop
-loop-again c = (omega arith, c .before .before .before .loop .inv .1 ∙ long-next _ _ _ (omega arith) (omega arith))
+loop-again c = (omega arith, c .before .before .before .before .loop .inv .1 ∙ any-next _ _ _ (omega arith) (not-long _ _ (omega arith)))
 
 returns-2 : tie.Need-returns-2 Inv-loop μ-loop
-returns-2 c = sym (c .before .loop .inv .1 ∙ long-none _ _ _ (omega arith))
+returns-2 c = sym (c .before .loop .inv .1 ∙ any-done _ _ _ (omega arith))
 
 pub too-long-spec : {M : Type 1} → statement M
 too-long-spec =
@@ -33,8 +34,8 @@ too-long-spec =
     (tie.spec
     Inv-loop
     μ-loop
-    (λ c κs. search needs)
     loop-holds
+    (λ c κs. search needs)
     (λ c κs. search needs)
     returns
     (λ c. search needs)

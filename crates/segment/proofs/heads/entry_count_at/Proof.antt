@@ -10,4 +10,4 @@ unfolding entryCountAt
 returns c = cc
 
 pub entry-count-at-spec : {M : Type 1} → statement M
-entry-count-at-spec = tie.close (tie.spec (λ c κs. search needs) returns)
+entry-count-at-spec = tie.close (tie.spec (λ c κs. search needs) (λ c κs. search needs) returns)

@@ -10,4 +10,4 @@ unfolding idAt
 returns c = cc
 
 pub id-at-spec : {M : Type 1} → statement M
-id-at-spec = tie.close (tie.spec (λ c κs. search needs) returns)
+id-at-spec = tie.close (tie.spec (λ c κs. search needs) (λ c κs. search needs) returns)

@@ -2,7 +2,6 @@
 -- Assumes nothing.
 use mathlib.Core.Path.{_≡_, refl, sym, ap, _∙_}
 use native.Mathlib.Omega.{arith}
-use Rattle.spec.specs.Octets.{Bytes}
 use Rattle.segment.proofs.Printing.{input-first, input-last}
 use borrow.Author.Needs.{needs}
 use Rattle.segment.proofs.print.input_byte.Statement.{statement}

@@ -4,10 +4,10 @@ use mathlib.Core.Path.{_≡_, refl, sym, ap, _∙_}
 use Prim.Native.Nat.{_+_, _*_, _-_, _^_, _≤_, _<_}
 use native.Mathlib.Omega.{arith}
 use lib.ListN.{length, take}
-use Rattle.spec.specs.Book.{entryAt, entriesAt}
+use Rattle.spec.specs.Limits.{maxEntries}
 use mathlib.Core.List.{flatMap}
-use Rattle.spec.specs.Book.{entryOffset}
-use Rattle.segment.specs.Print.{inputs}
+use Rattle.spec.specs.Book.{entryAt, entriesAt, entryOffset}
+use Rattle.segment.specs.Print.{inputSize, inputs}
 use Rattle.segment.proofs.Fitting.{offset-more}
 use Rattle.segment.proofs.Printing.{copied-more, copied-length}
 use borrow.Author.Needs.{needs}
@@ -15,24 +15,17 @@ use Rattle.segment.proofs.print.message.Statement.{statement}
 use Rattle.segment.proofs.print.message.Tie as tie
 
 abbrev Inv-loop : tie.InvT-loop
-Inv-loop book start count m₀ at₀ i₀ m at i = (i ≤ count) × (length m ≡ 192) × (at ≡ entryOffset book start i) × (take (12 * i) m ≡ inputs book start i)
+Inv-loop book start count m₀ at₀ i₀ m at i = (i ≤ count) × (at < 2 ^ 32 + 2 ^ 13 * i) × (length m ≡ inputSize * maxEntries) × (at ≡ entryOffset book start i) × (take (inputSize * i) m ≡ inputs book start i)
 
 abbrev μ-loop : tie.MeasureT-loop
 μ-loop book start count m₀ at₀ i₀ m at i = count - i
 
 loop-holds : tie.Need-loop-holds Inv-loop μ-loop
 unfolding entryOffset inputs entriesAt flatMap
-loop-holds c = (omega arith, refl, refl, refl)
+loop-holds c = (omega arith, omega arith, refl, refl, refl)
 
 put-entry-requires : tie.Need-put-entry-requires Inv-loop μ-loop
-put-entry-requires c κs =
-    let l = c .before .before in
-    (omega (arith, l .before .before .pre .1 (l .loop .i) (omega arith)), (omega arith, l .loop .inv .1))
-
-entry-end-requires : tie.Need-entry-end-requires Inv-loop μ-loop
-entry-end-requires c κs =
-    let l = c .before .before .before in
-    omega (arith, l .before .before .pre .1 (l .loop .i) (omega arith))
+put-entry-requires c κs = (omega arith, (omega arith, c .before .before .loop .inv .2))
 
 loop-again : tie.Need-loop-again Inv-loop μ-loop
 loop-again c =
@@ -40,9 +33,10 @@ loop-again c =
     let a = l .before .before .args in
     let e = c .before .put-entry .ensures in (
       omega arith,
-      ap length e ∙ copied-length (l .loop .m) (12 * l .loop .i) (entryAt (a .book .now) (l .loop .at)) (omega arith) ∙ l .loop .inv .1,
+      omega arith,
+      ap length e ∙ copied-length (l .loop .m) (inputSize * l .loop .i) (entryAt (a .book .now) (l .loop .at)) (omega arith) ∙ l .loop .inv .2,
       cc (offset-more (a .book .now) (a .start) (l .loop .i)),
-      ap (take (12 * (l .loop .i + 1))) e ∙ copied-more (l .loop .m) (a .book .now) (a .start) (l .loop .i) (l .loop .at) (omega arith) (l .loop .inv .2) (l .loop .inv .3),
+      ap (take (inputSize * (l .loop .i + 1))) e ∙ copied-more (l .loop .m) (a .book .now) (a .start) (l .loop .i) (l .loop .at) (omega arith) (l .loop .inv .3) (l .loop .inv .4),
     )
 
 returns : tie.Need-returns Inv-loop μ-loop
@@ -60,7 +54,7 @@ message-spec =
     loop-holds
     (λ c. search needs)
     put-entry-requires
-    entry-end-requires
+    (λ c κs. search needs)
     (λ c. search needs)
     (λ c. search needs)
     loop-again

@@ -1,24 +1,25 @@
 -- `put_entry` meets its contract. The loop's invariant: j bytes are copied.
 -- Assumes nothing.
 use mathlib.Core.Path.{_≡_, refl, sym, ap, _∙_}
+use mathlib.Core.List.{List}
 use Prim.Native.Nat.{ℕ, _+_, _-_, _≤_}
 use native.Mathlib.Omega.{arith}
 use native.Mathlib.Numerals.{add-one}
-use mathlib.Core.List.{List}
 use lib.ListN.{length, getD, set}
 use lib.Seq.{paste, paste-zero, paste-suc}
 use Rattle.spec.specs.Book.{entryAt}
-use Rattle.segment.specs.Print.{entryInput}
+use Rattle.spec.specs.Order.{entryInput}
+use Rattle.segment.specs.Print.{inputSize}
 use Rattle.segment.proofs.Printing.{input-length}
 use borrow.Author.Needs.{needs}
 use Rattle.segment.proofs.print.put_entry.Statement.{statement}
 use Rattle.segment.proofs.print.put_entry.Tie as tie
 
 abbrev Inv-loop : tie.InvT-loop
-Inv-loop book message₀ place at j₀ message j = (j ≤ 12) × (message ≡ paste message₀ place (entryInput (entryAt book at)) j)
+Inv-loop book message₀ place at j₀ message j = (j ≤ inputSize) × (message ≡ paste message₀ place (entryInput (entryAt book at)) j)
 
 abbrev μ-loop : tie.MeasureT-loop
-μ-loop book message₀ place at j₀ message j = 12 - j
+μ-loop book message₀ place at j₀ message j = inputSize - j
 
 loop-holds : tie.Need-loop-holds Inv-loop μ-loop
 loop-holds c =
@@ -39,7 +40,7 @@ loop-again c =
 
 returns : tie.Need-returns Inv-loop μ-loop
 returns c =
-    let e : c .before .loop .j ≡ 12 = omega arith in
+    let e : c .before .loop .j ≡ inputSize = omega arith in
     cc
 
 pub put-entry-spec : {M : Type 1} → statement M

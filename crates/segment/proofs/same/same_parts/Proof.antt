@@ -1,0 +1,28 @@
+-- `same_parts` meets its contract.
+-- Assumes nothing.
+use mathlib.Core.Path.{_≡_, sym, _∙_}
+use native.Mathlib.Omega.{arith}
+use Rattle.segment.proofs.Sameness.{parts-bytes, parts-differ}
+use borrow.Author.Needs.{needs}
+use Rattle.segment.proofs.same.same_parts.Statement.{statement}
+use Rattle.segment.proofs.same.same_parts.Tie as tie
+
+returns : tie.Need-returns
+returns c = sym (parts-differ _ _ _ _ _ _ _ _ _ (c .before .before .before .before .least .ensures) (c .before .before .least3 .ensures) (c .before .before .before .least2 .ensures) (c .before .least4 .ensures) (c .if1 .taken))
+
+returns-2 : tie.Need-returns-2
+returns-2 c = c .same-bytes .ensures ∙ sym (parts-bytes _ _ _ _ _ _ _ _ _ (c .before .before .before .before .before .least .ensures) (c .before .before .before .least3 .ensures) (c .before .before .before .before .least2 .ensures) (c .before .before .least4 .ensures) (c .before .if1 .left))
+
+pub same-parts-spec : {M : Type 1} → statement M
+same-parts-spec =
+    tie.close
+    (tie.spec
+    (λ c κs. search needs)
+    (λ c κs. search needs)
+    (λ c. search needs)
+    (λ c κs. search needs)
+    (λ c. search needs)
+    (λ c κs. search needs)
+    returns
+    (λ c κs. search needs)
+    returns-2)
