@@ -1,1 +1,3 @@
 pub mod Usable
+pub mod Places
+pub mod Parts

@@ -12,9 +12,9 @@ use Rattle.spec.specs.Assembly.{segmentOf}
 use Rattle.spec.specs.Router.{isAlong}
 use Rattle.segment.specs.Offsets.{offsetTable}
 
-pub record Ready (b table : List ℕ) : Type 0 where
+pub record Ready (b offsets : List ℕ) : Type 0 where
   pub ok : verdict b ≡ Accepted
-  pub table : table ≡ offsetTable b
+  pub table : offsets ≡ offsetTable b
 
 pub record Usable (b : List ℕ) (e : Edge) : Type 0 where
   pub position : e .position < segmentCount b

@@ -1,0 +1,6 @@
+-- Laws that belong to no one function.
+pub mod Copies
+pub mod Standing
+pub mod Writes
+pub mod Showing
+pub mod Walking
