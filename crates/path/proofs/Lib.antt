@@ -4,3 +4,6 @@ pub mod Standing
 pub mod Writes
 pub mod Showing
 pub mod Walking
+pub mod Chaining
+pub mod Repeats
+pub mod Assembling

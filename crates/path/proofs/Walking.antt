@@ -33,7 +33,7 @@ use Rattle.path.specs.declared.Part.{Part}
 use Rattle.path.specs.declared.Part.the-variants.{Hops, Ases, Ids}
 use Rattle.path.specs.Usable.{Usable}
 use Rattle.path.specs.Places.{Here, Wrote, entryFrom, passed, fromLeaf}
-use Rattle.path.specs.Parts.{interfacesHere, entryBytes, edgeBytes, walked, unitsPassed, mtusPassed, stopFrom, flagsOf}
+use Rattle.path.specs.Parts.{infoBytes, interfacesHere, entryBytes, edgeBytes, walked, unitsPassed, mtusPassed, stopFrom, flagsOf}
 use Rattle.path.proofs.Writes.{wrote-none, wrote-one, wrote-join, wrote-as}
 use Rattle.path.proofs.Showing.{least-append, least-one}
 
@@ -287,8 +287,8 @@ fields-written d at f h i t =
 pub info-wrote : (b : List ℕ) (e : Edge) (d : List ℕ) (at : ℕ) (d′ : List ℕ) (f h i t : ℕ)
     → d′ ≡ written d at ((f ∷ h ∷ []) ++ octets2 i ++ octets4 t)
     → f ≡ flagsOf e → h ≡ hopCount (segmentOf b e) e → i ≡ idBelow (segmentOf b e) (stopAt (segmentOf b e) e) → t ≡ segmentOf b e .timestamp
-    → Wrote d at (infoOctets (infoOn b e)) d′ (at + infoSize)
-unfolding infoOn infoOf infoOctets flagsOf
+    → Wrote d at (infoBytes b e) d′ (at + infoSize)
+unfolding infoBytes infoOn infoOf infoOctets flagsOf
 info-wrote b e d at d′ f h i t q qf qh qi qt =
     wrote-one d at (infoOctets (infoOn b e)) d′ infoSize (at + infoSize)
     (q

@@ -12,8 +12,8 @@ use Rattle.spec.specs.Octets.{octets2}
 use Rattle.spec.specs.Book.{Segment}
 use Rattle.spec.specs.Edges.{entryOf, peerOf}
 use Rattle.path.specs.Places.{isLeft, passed, fromLeaf}
-use Rattle.spec.specs.Assembly.{least, unitsOf, mtusAt, isPeerEdge, isPeerHop, interfaceIf, interfacesAt, inDirection, hopOf, segmentOf, hopsOn, interfacesOn}
-use Rattle.spec.specs.Records.{bit, hopOctets, asOctets, interfaceAsOctets, interfaceIdOctets}
+use Rattle.spec.specs.Assembly.{least, unitsOf, mtusAt, isPeerEdge, isPeerHop, interfaceIf, interfacesAt, inDirection, hopOf, segmentOf, infoOn, hopsOn, interfacesOn}
+use Rattle.spec.specs.Records.{bit, infoOctets, hopOctets, asOctets, interfaceAsOctets, interfaceIdOctets}
 use Rattle.path.specs.declared.Part.{Part}
 use Rattle.path.specs.declared.Part.the-variants.{Hops, Ases, Ids}
 use Rattle.path.specs.declared.Chain.{Chain}
@@ -74,6 +74,9 @@ stopFrom e k = if isPeerHop e k then k + 1 else k
 
 unfoldable pub flagsOf : Edge → ℕ
 flagsOf e = bit (e .construction) + 2 * bit (isPeerEdge e)
+
+unfoldable pub infoBytes : List ℕ → Edge → List ℕ
+infoBytes b e = infoOctets (infoOn b e)
 
 unfoldable pub edgeBytes : List ℕ → Part → Edge → List ℕ
 edgeBytes b Hops e = flatMap hopOctets (hopsOn b e)

@@ -4,12 +4,12 @@ ghost use mathlib.Core.List.{[], _∷_, _++_, map};
 ghost use Prim.Native.Nat.{_+_, _*_, _^_, _≤_, _<_, min};
 ghost use Rattle.spec.specs.Limits.{maxEntries, infoSize};
 ghost use Rattle.spec.specs.Octets.{octets2, octets4};
-ghost use Rattle.spec.specs.Assembly.{least, unitsOf, hopsOn, mtusOn, expiryOn, infoOn, idBelow, stopAt, segmentOf};
-ghost use Rattle.spec.specs.Records.{bit, infoOctets};
+ghost use Rattle.spec.specs.Assembly.{least, unitsOf, hopsOn, mtusOn, expiryOn, idBelow, stopAt, segmentOf};
+ghost use Rattle.spec.specs.Records.{bit};
 ghost use Rattle.octets.specs.Write.{written};
 ghost use Rattle.path.specs.Usable.{Ready, Usable};
 ghost use Rattle.path.specs.Places.{Wrote};
-ghost use Rattle.path.specs.Parts.{edgeBytes, stopFrom, flagsOf};
+ghost use Rattle.path.specs.Parts.{infoBytes, edgeBytes, stopFrom, flagsOf};
 use crate::Part;
 use crate::entry;
 use crate::places;
@@ -176,7 +176,7 @@ pub(crate) fn put_info(
     requires { ⌜ Ready (now book) (now table) ⌝ }
     requires { ⌜ Usable (now book) e ⌝ }
     requires { ⌜ at < 2 ^ 32 ⌝ }
-    ensures { λ r. ⌜ Wrote (now (out .entry)) at (infoOctets (infoOn (now (book .entry)) e)) (now (out .exit)) r × (r ≡ at + infoSize) ⌝ }
+    ensures { λ r. ⌜ Wrote (now (out .entry)) at (infoBytes (now (book .entry)) e) (now (out .exit)) r × (r ≡ at + infoSize) ⌝ }
 {
     let n = places::entry_count(book, e);
     let hops = n - (e.shortcut as usize);
