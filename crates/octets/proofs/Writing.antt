@@ -62,19 +62,6 @@ unfolding written
 written-within d at xs h =
     take-all (length d) (take at d ++ xs ++ drop (at + length xs) d) (simp (length-append, length-take, length-drop) (omega arith))
 
--- how many bytes a number takes, for `written-next`
-pub octets2-length : (x : ℕ) → length (octets2 x) ≡ 2
-unfolding octets2
-octets2-length x = refl
-
-pub octets4-length : (x : ℕ) → length (octets4 x) ≡ 4
-unfolding octets4 octets2
-octets4-length x = refl
-
-pub octets8-length : (x : ℕ) → length (octets8 x) ≡ 8
-unfolding octets8 octets4 octets2
-octets8-length x = refl
-
 -- a buffer that is filled from the front
 pub written-next : (done rest : List ℕ) (at : ℕ) (xs : List ℕ) → length done ≡ at → length xs ≤ length rest
     → written (done ++ rest) at xs ≡ (done ++ xs) ++ drop (length xs) rest
@@ -90,6 +77,19 @@ written-cut d at k xs h = go (decLe k (length xs))
         sym (written-past (written d at (take k xs)) (at + length (take k xs)) (drop k xs) (simp (written-length, length-take) (omega arith)))
         ∙ written-join d at (take k xs) (drop k xs) ∙ ap (written d at) (take-append-drop k xs)
     go (no l) = ap (written d at) (take-all k xs (omega arith))
+
+-- how many bytes a number takes
+pub octets2-length : (x : ℕ) → length (octets2 x) ≡ 2
+unfolding octets2
+octets2-length x = refl
+
+pub octets4-length : (x : ℕ) → length (octets4 x) ≡ 4
+unfolding octets4 octets2
+octets4-length x = refl
+
+pub octets8-length : (x : ℕ) → length (octets8 x) ≡ 8
+unfolding octets8 octets4 octets2
+octets8-length x = refl
 
 -- ---- zeros
 
@@ -113,7 +113,7 @@ zeroed-all d = zeroed-rest [] d
 
 -- ---- what the code leaves, in the terms of the contracts
 
--- xs and then ys, of which the first has n bytes
+-- two writes, of which the first has n bytes
 pub written-pair : (d : List ℕ) (at n : ℕ) (xs ys : List ℕ) → length xs ≡ n → written (written d at xs) (at + n) ys ≡ written d at (xs ++ ys)
 written-pair d at n xs ys e = rw (← e) (written-join d at xs ys)
 
@@ -121,7 +121,7 @@ written-pair d at n xs ys e = rw (← e) (written-join d at xs ys)
 written-more : (d : List ℕ) (at n : ℕ) (xs : List ℕ) (x : ℕ) → length xs ≡ n → set (written d at xs) (at + n) x ≡ written d at (xs ++ (x ∷ []))
 written-more d at n xs x e = sym (written-one (written d at xs) (at + n) x) ∙ written-pair d at n xs (x ∷ []) e
 
-pub written-two : (d : List ℕ) (at x y : ℕ) → set (set d at x) (at + 1) y ≡ written d at (x ∷ y ∷ [])
+written-two : (d : List ℕ) (at x y : ℕ) → set (set d at x) (at + 1) y ≡ written d at (x ∷ y ∷ [])
 written-two d at x y = rw (← written-one d at x) (written-more d at 1 (x ∷ []) y refl)
 
 octets2-is : (x : ℕ) → x < 2 ^ 16 → x / 2 ^ 8 ∷ x % 2 ^ 8 ∷ [] ≡ octets2 x

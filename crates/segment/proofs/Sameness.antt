@@ -3,7 +3,7 @@
 use mathlib.Core.Path.{_≡_, refl, sym, ap, ap₂, _∙_}
 use mathlib.Core.Bool.{Bool, true, false, _&&_, not}
 use mathlib.Core.List.{List, [], _∷_, map}
-use Prim.Native.Nat.{ℕ, zero, suc, _+_, _-_, _≤_, _<_, min}
+use Prim.Native.Nat.{ℕ, suc, _+_, _-_, _≤_, _<_, min}
 use native.Mathlib.Omega.{arith}
 use lib.ListN.{length, getD, take, drop, length-take, length-drop, drop-of-length-le}
 use lib.Seq.{drop-cons, take-all}
@@ -191,12 +191,14 @@ module _ (b : List ℕ) (k j : ℕ) where
   unfolding repeats isEarlier segmentAt
   repeats-is h = rw (lt-ltb j k h)
 
-  pub repeats-head : j < k → sameHead b k j ≡ false → repeats b k j ≡ false
-  repeats-head h q = repeats-is h ∙ other-head b k j q
+  -- what the code's two comparisons, of heads and of bodies, say of it
+  module _ (before : j < k) (heads : Bool) (es : heads ≡ sameHead b k j) where
+    pub other-heads : heads ≡ false → repeats b k j ≡ false
+    other-heads q = repeats-is before ∙ other-head b k j (sym es ∙ q)
 
-  pub repeats-body : j < k → sameHead b k j ≡ true
-      → repeats b k j ≡ sameParts b (bodyOffset b k) (bodyLengthAt b k) (bodyOffset b j) (bodyLengthAt b j)
-  repeats-body h q = repeats-is h ∙ by-bodies b k j q
+    pub same-heads : heads ≡ true → (at n start m : ℕ) → at ≡ bodyOffset b k → n ≡ bodyLengthAt b k → start ≡ bodyOffset b j → m ≡ bodyLengthAt b j
+        → (bodies : Bool) → bodies ≡ sameParts b at n start m → repeats b k j ≡ bodies
+    same-heads q at n start m ea en est em bodies e = repeats-is before ∙ by-bodies b k j (sym es ∙ q) ∙ cc
 
   repeats-not : k ≤ j → repeats b k j ≡ false
   unfolding repeats isEarlier segmentAt

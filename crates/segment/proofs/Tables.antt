@@ -21,7 +21,7 @@ module _ (b : List ℕ) (at place : ℕ) (table : List ℕ) where
   unfolding withRow
   row-more n = rw add-one
 
-  pub row-length : (n : ℕ) → length (withRow b at place n table) ≡ length table
+  row-length : (n : ℕ) → length (withRow b at place n table) ≡ length table
   unfolding withRow
   row-length zero = refl
   row-length (suc n) = simp length-set (row-length n)
@@ -67,6 +67,10 @@ rows-at b (suc n) s k i h l = go (λ g. rows-at b n (omega arith) k i g l) (ℕ-
     go below (no d) =
         row-before b (bodyOffset b n) (maxEntries * n) (rowsBelow b n) count (maxEntries * k + i) (omega arith) ∙ below (omega arith)
 
+pub table-length : (b : List ℕ) → length (offsetTable b) ≡ maxSegments * maxEntries
+unfolding offsetTable
+table-length b = rows-length b (min maxSegments (segmentCount b))
+
 -- ---- an accepted book: entry i of position k
 
 module _ (b : List ℕ) (a : AcceptedBook b) (k i : ℕ) (h : k < segmentCount b) (l : i < entryCountAt b k) where
@@ -78,7 +82,7 @@ module _ (b : List ℕ) (a : AcceptedBook b) (k i : ℕ) (h : k < segmentCount b
       let o = offset-small b a k h i l in
       rows-at b (min maxSegments (segmentCount b)) (omega arith) k i (omega (arith, a .crowd)) (omega arith) ∙ omega arith
 
-  -- what is read there: the entry itself, its AS, how many peers it has, and each of them
+  -- the entry itself, its AS, how many peers it has, and each of them, as they are read at that offset
   pub table-own : entryOf (segmentAt b k) i .own ≡ asEntryAt b (getD (offsetTable b) (maxEntries * k + i) 0)
   table-own = own-read b k i l ∙ ap (asEntryAt b) (sym table-at)
 

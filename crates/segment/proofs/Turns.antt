@@ -1,13 +1,13 @@
 -- The turns of the loops that answer about a book: what a definition's recursion says at one step, by cases of the tests.
 -- Assumes nothing.
-use mathlib.Core.Path.{_≡_, refl, sym, ap, _∙_}
-use mathlib.Core.Bool.{Bool, true, false, _||_, not}
+use mathlib.Core.Path.{_≡_, refl, ap, _∙_}
+use mathlib.Core.Bool.{Bool, true, false, not}
 use mathlib.Core.List.{List}
 use Prim.Native.Nat.{ℕ, zero, suc, _+_, _-_, _≤_, _<_}
 use native.Mathlib.Numerals.{add-one}
 use native.Mathlib.Omega.{arith}
 use lib.ListN.{length}
-use lib.Dec.{ltb, eqb}
+use lib.Dec.{eqb}
 use borrow.Author.Tests.{lt-ltb, le-ltb, eq-eqb, ne-eqb}
 use Rattle.spec.specs.declared.Refusal.{Refusal}
 use Rattle.spec.specs.declared.Refusal.the-variants.{Cut, Surplus, Oversize, Crowded, Long, Peers, Misfit}
@@ -15,7 +15,7 @@ use Rattle.spec.specs.declared.Verdict.{Verdict}
 use Rattle.spec.specs.declared.Verdict.the-variants.{Accepted, Refused}
 use Rattle.spec.specs.Limits.{sizesSize, maxBook, maxSegments, maxEntries, maxPeers, entrySize}
 use Rattle.spec.specs.Basics.{if_then_else_, any, range}
-use Rattle.spec.specs.Book.{segmentCount, bodyTotal, headOffset, entryCountAt, bodyLengthAt, lengthsBelow, bodyOffset, wholeLength, peerCount, entryEnd, entriesVerdict, bodyVerdict, bodiesVerdict, isLong, tooLong, verdict}
+use Rattle.spec.specs.Book.{segmentCount, bodyTotal, entryCountAt, bodyLengthAt, lengthsBelow, bodyOffset, wholeLength, peerCount, entryEnd, entriesVerdict, bodyVerdict, bodiesVerdict, isLong, tooLong, verdict}
 
 -- ---- the entries of a body
 

@@ -16,7 +16,7 @@ pub fn isd_asn(book: &[u8], at: usize) -> IsdAsn
 }
 
 // The six bytes of a MAC, `i` past `at`.
-fn mac_past(book: &[u8], at: usize, i: usize) -> [u8; 6]
+fn mac_past(book: &[u8], at: usize, i: u8) -> [u8; 6]
     requires { ⌜ i < 250 ⌝ }
     ensures { λ r. ⌜ r ≡ macAt (now (book .entry)) (at + i) ⌝ }
 {

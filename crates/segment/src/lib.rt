@@ -15,6 +15,7 @@ pub use entries::isd_asn;
 pub use entries::peer_entry;
 pub use heads::head;
 pub use heads::sizes;
+pub use offsets::PLACES;
 pub use offsets::entry_offsets;
 pub use print::fingerprint;
 pub use same::is_first;

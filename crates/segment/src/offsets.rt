@@ -9,6 +9,7 @@ use crate::numbers::least;
 use crate::numbers::wide;
 use spec::Limits;
 
+// The places of the table: a row for each position, a place in it for each entry.
 pub const PLACES: usize = Limits::SEGMENTS * Limits::ENTRIES;
 
 // Stores the offsets of a body's first entries, which start at `start`, in row k of the table.

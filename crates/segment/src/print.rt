@@ -1,11 +1,11 @@
 // The fingerprint of a segment: SHA-256 over each entry's AS, ingress and egress, in order.
 ghost use mathlib.Core.Path.{_≡_};
 ghost use Prim.Native.Nat.{_+_, _*_, _^_, _≤_, _<_};
-ghost use lib.ListN.{length, getD, take};
-ghost use lib.Seq.{paste};
+ghost use lib.ListN.{take};
 ghost use Rattle.spec.specs.Limits.{maxEntries};
 ghost use Rattle.spec.specs.Book.{segmentAt, entryAt};
 ghost use Rattle.spec.specs.Order.{entryInput, fingerprintInput};
+ghost use Rattle.octets.specs.Write.{written};
 ghost use Rattle.sha256.specs.Message.{sha256};
 ghost use Rattle.segment.specs.Print.{inputSize, inputs};
 use crate::entries;
@@ -19,28 +19,14 @@ const INPUT: usize = 12;
 
 const MESSAGE: usize = INPUT * Limits::ENTRIES;
 
-// Byte j of what the entry at an offset gives: its first 8 bytes, and the 4 at 14.
-fn input_byte(book: &[u8], at: usize, j: usize) -> u8
-    requires { ⌜ at < 2 ^ 48 ⌝ }
-    requires { ⌜ j < inputSize ⌝ }
-    ensures { λ r. ⌜ r ≡ getD (entryInput (entryAt (now (book .entry)) at)) j 0 ⌝ }
+// Writes what the entry at an offset gives, from `place` on.
+fn put_entry(book: &[u8], message: &mut [u8], place: usize, at: usize)
+    requires { ⌜ place < 2 ^ 32 ⌝ }
+    ensures { λ r. ⌜ now (message .exit) ≡ written (now (message .entry)) place (entryInput (entryAt (now (book .entry)) at)) ⌝ }
 {
-    if j < 8 {
-        return octets::byte(book, at + j);
-    }
-    octets::byte(book, at + 6 + j)
-}
-
-fn put_entry(book: &[u8], message: &mut [u8; MESSAGE], place: usize, at: usize)
-    requires { ⌜ at < 2 ^ 48 ⌝ }
-    requires { ⌜ (place + inputSize ≤ length (now message)) × (length (now message) ≡ inputSize * maxEntries) ⌝ }
-    ensures { λ r. ⌜ now (message .exit) ≡ paste (now (message .entry)) place (entryInput (entryAt (now (book .entry)) at)) inputSize ⌝ }
-{
-    let mut j: usize = 0;
-    while j < INPUT {
-        message[place + j] = input_byte(book, at, j);
-        j += 1;
-    }
+    octets::put64(message, place, octets::be64(book, at));
+    octets::put16(message, place + 8, octets::be16_past(book, at, 14));
+    octets::put16(message, place + 10, octets::be16_past(book, at, 16));
 }
 
 // What `count` entries from `start` on give, and zeros.

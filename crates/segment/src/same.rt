@@ -79,13 +79,9 @@ pub fn same_segment(book: &[u8], j: u8, k: u8) -> bool
     }
     let m = wide(heads::body_length_at(book, j));
     let n = wide(heads::body_length_at(book, k));
-    same_parts(
-        book,
-        heads::body_offset(book, j),
-        m,
-        heads::body_offset(book, k),
-        n,
-    )
+    let at_j = heads::body_offset(book, j);
+    let at_k = heads::body_offset(book, k);
+    same_parts(book, at_j, m, at_k, n)
 }
 
 // No equal segment of the book stands at a lower position. The offset of the body at j is carried along.

@@ -1,6 +1,6 @@
 -- `bodies_verdict` meets its contract. The loop's invariant: what is left says what the whole says, and `at` is where the next body starts.
 -- Assumes nothing.
-use mathlib.Core.Path.{_≡_, refl, sym, ap, _∙_}
+use mathlib.Core.Path.{_≡_, sym, ap, _∙_}
 use Prim.Native.Nat.{_+_, _*_, _-_, _^_, _≤_, _<_}
 use native.Mathlib.Omega.{arith}
 use Rattle.spec.specs.Book.{bodyOffset, bodiesVerdict}

@@ -1,6 +1,6 @@
 -- `too_long` meets its contract. The loop's invariant: whether a head is too long shows in those from k on.
 -- Assumes nothing.
-use mathlib.Core.Path.{_≡_, refl, sym, _∙_}
+use mathlib.Core.Path.{_≡_, sym, _∙_}
 use Prim.Native.Nat.{_-_, _≤_}
 use native.Mathlib.Omega.{arith}
 use Rattle.spec.specs.Basics.{any, range}

@@ -1,7 +1,7 @@
 -- `lengths_below` meets its contract. The loop's invariant: `sum` is the length of the bodies before i.
 -- Assumes nothing.
 use mathlib.Core.Path.{_≡_}
-use Prim.Native.Nat.{_+_, _*_, _-_, _≤_}
+use Prim.Native.Nat.{_*_, _-_, _≤_}
 use native.Mathlib.Omega.{arith}
 use Rattle.spec.specs.Book.{lengthsBelow}
 use Rattle.segment.proofs.Turns.{lengths-more}

@@ -1,6 +1,6 @@
 -- `entry_offsets` meets its contract. The loop's invariant: the rows before k are stored, and `at` is where the next body starts.
 -- Assumes nothing.
-use mathlib.Core.Path.{_≡_, refl, sym, ap, _∙_}
+use mathlib.Core.Path.{_≡_, refl}
 use Prim.Native.Nat.{_+_, _*_, _-_, _^_, _≤_, _<_, min}
 use native.Mathlib.Omega.{arith}
 use Rattle.spec.specs.Limits.{maxSegments}

@@ -1,6 +1,6 @@
 -- `fill_row` meets its contract. The loop's invariant: i offsets are stored, and `at` is the next.
 -- Assumes nothing.
-use mathlib.Core.Path.{_≡_, refl, sym, ap, _∙_}
+use mathlib.Core.Path.{_≡_, refl}
 use Prim.Native.Nat.{_+_, _*_, _-_, _^_, _≤_, _<_}
 use native.Mathlib.Omega.{arith}
 use Rattle.spec.specs.Limits.{maxEntries}

@@ -1,15 +1,17 @@
--- `message` meets its contract. The loop's invariant: what i entries give is copied, and `at` is the next entry's offset.
+-- `message` meets its contract. The loop's invariant: what i entries give is written, and `at` is the next entry's offset.
 -- Assumes nothing.
-use mathlib.Core.Path.{_≡_, refl, sym, ap, _∙_}
+use mathlib.Core.Path.{_≡_, refl, ap, _∙_}
+use mathlib.Core.List.{flatMap}
 use Prim.Native.Nat.{_+_, _*_, _-_, _^_, _≤_, _<_}
 use native.Mathlib.Omega.{arith}
 use lib.ListN.{length, take}
 use Rattle.spec.specs.Limits.{maxEntries}
-use mathlib.Core.List.{flatMap}
 use Rattle.spec.specs.Book.{entryAt, entriesAt, entryOffset}
+use Rattle.spec.specs.Order.{entryInput}
+use Rattle.octets.proofs.Writing.{written-length}
 use Rattle.segment.specs.Print.{inputSize, inputs}
 use Rattle.segment.proofs.Fitting.{offset-more}
-use Rattle.segment.proofs.Printing.{copied-more, copied-length}
+use Rattle.segment.proofs.Printing.{written-more}
 use borrow.Author.Needs.{needs}
 use Rattle.segment.proofs.print.message.Statement.{statement}
 use Rattle.segment.proofs.print.message.Tie as tie
@@ -24,19 +26,16 @@ loop-holds : tie.Need-loop-holds Inv-loop μ-loop
 unfolding entryOffset inputs entriesAt flatMap
 loop-holds c = (omega arith, omega arith, refl, refl, refl)
 
-put-entry-requires : tie.Need-put-entry-requires Inv-loop μ-loop
-put-entry-requires c κs = (omega arith, (omega arith, c .before .before .loop .inv .2))
-
 loop-again : tie.Need-loop-again Inv-loop μ-loop
 loop-again c =
-    let l = c .before .before .before .before in
+    let l = c .before .before .before .before .before in
     let a = l .before .before .args in
-    let e = c .before .put-entry .ensures in (
+    let e = c .before .before .put-entry .ensures in (
       omega arith,
       omega arith,
-      ap length e ∙ copied-length (l .loop .m) (inputSize * l .loop .i) (entryAt (a .book .now) (l .loop .at)) (omega arith) ∙ l .loop .inv .2,
+      ap length e ∙ written-length (l .loop .m) (inputSize * l .loop .i) (entryInput (entryAt (a .book .now) (l .loop .at))) ∙ l .loop .inv .2,
       cc (offset-more (a .book .now) (a .start) (l .loop .i)),
-      ap (take (inputSize * (l .loop .i + 1))) e ∙ copied-more (l .loop .m) (a .book .now) (a .start) (l .loop .i) (l .loop .at) (omega arith) (l .loop .inv .3) (l .loop .inv .4),
+      ap (take (inputSize * (l .loop .i + 1))) e ∙ written-more (l .loop .m) (a .book .now) (a .start) (l .loop .i) (l .loop .at) (omega arith) (l .loop .inv .3) (l .loop .inv .4),
     )
 
 returns : tie.Need-returns Inv-loop μ-loop
@@ -53,7 +52,8 @@ message-spec =
     μ-loop
     loop-holds
     (λ c. search needs)
-    put-entry-requires
+    (λ c. search needs)
+    (λ c κs. search needs)
     (λ c κs. search needs)
     (λ c. search needs)
     (λ c. search needs)

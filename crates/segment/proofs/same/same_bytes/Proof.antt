@@ -1,7 +1,7 @@
 -- `same_bytes` meets its contract. The loop's invariant: what is left says what the whole says.
 -- Assumes nothing.
-use mathlib.Core.Path.{_≡_, refl, sym, _∙_}
-use Prim.Native.Nat.{_+_, _-_, _≤_}
+use mathlib.Core.Path.{_≡_, sym, _∙_}
+use Prim.Native.Nat.{_-_, _≤_}
 use native.Mathlib.Omega.{arith}
 use Rattle.segment.specs.Same.{sameParts}
 use Rattle.segment.proofs.Sameness.{sameFrom, from-start, bytes-next, bytes-differ, bytes-same}

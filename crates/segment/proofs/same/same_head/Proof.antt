@@ -1,6 +1,6 @@
 -- `same_head` meets its contract: at each return, the tests on the way there settle the definition's.
 -- Assumes nothing.
-use mathlib.Core.Path.{_≡_, sym, ap₂, _∙_}
+use mathlib.Core.Path.{sym, ap₂, _∙_}
 use Rattle.spec.specs.Edges.{sameBool}
 use Rattle.segment.proofs.Sameness.{other-id, other-time, by-kind}
 use borrow.Author.Needs.{needs}

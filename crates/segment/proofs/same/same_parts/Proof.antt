@@ -1,7 +1,6 @@
 -- `same_parts` meets its contract.
 -- Assumes nothing.
-use mathlib.Core.Path.{_≡_, sym, _∙_}
-use native.Mathlib.Omega.{arith}
+use mathlib.Core.Path.{sym, _∙_}
 use Rattle.segment.proofs.Sameness.{parts-bytes, parts-differ}
 use borrow.Author.Needs.{needs}
 use Rattle.segment.proofs.same.same_parts.Statement.{statement}

@@ -1,6 +1,6 @@
 -- `same_segment` meets its contract: at each return, the tests on the way there settle the definition's.
 -- Assumes nothing.
-use mathlib.Core.Path.{_≡_, sym, _∙_}
+use mathlib.Core.Path.{sym, _∙_}
 use borrow.Author.Tests.{not-true, not-false}
 use Rattle.segment.proofs.Sameness.{other-head, by-bodies}
 use borrow.Author.Needs.{needs}

@@ -1,0 +1,13 @@
+pub mod LookupScan
+pub mod LookupLaws
+pub mod LeavingLaws
+pub mod LookupReads
+pub mod SearchLists
+pub mod SearchLaws
+pub mod SearchFound
+pub mod SearchTurns
+pub mod SearchBounds
+pub mod PushedLaws
+pub mod PushedRecords
+pub mod PushedTurns
+pub mod ListLaws

@@ -1,0 +1,75 @@
+-- The bytes of a solution's record, and the record of a chain pushed.
+-- Assumes nothing.
+use Prim.Native.Nat.{ℕ, _+_, _*_, _-_, _/_, _%_, _^_, _≤_, _<_}
+use native.Mathlib.Omega.{arith}
+use mathlib.Core.Path.{_≡_, refl, sym, ap, ap₂, _∙_, subst}
+use mathlib.Core.Bool.{Bool}
+use mathlib.Core.List.{List, [], _∷_, _++_, map, flatMap}
+use lib.ListN.{length, getD, take, drop, replicate}
+use lib.Seq.{take-all}
+use Rattle.spec.specs.declared.Edge.{Edge}
+use Rattle.spec.specs.declared.SolutionEdge.{SolutionEdge}
+use Rattle.spec.specs.declared.Solution.{Solution}
+use Rattle.spec.specs.Limits.{maxEdges, solutionSize}
+use Rattle.spec.specs.Basics.{range, padded, sum}
+use Rattle.spec.specs.Octets.{octets2}
+use Rattle.spec.specs.Order.{cost, weightOf, solutionEdge}
+use Rattle.spec.specs.Records.{bit, edgeOctets, edgeAt, noEdge, solutionOf, solutionOctets}
+use Rattle.octets.specs.Write.{written}
+use Rattle.octets.proofs.Writing.{written-within}
+use Rattle.graph.specs.Pushed.{Slots, putAt, edgeBytes, recordOctets, pushRecord, pushed, Pushes}
+use Rattle.graph.proofs.PushedLaws.{record-room, record-full, pushed-one, pushed-most}
+
+-- ---- bytes
+
+pub record-is : (s : Solution) (x y z : ℕ) → s .cost < 2 ^ 16
+    → x ≡ bit (getD (s .edges) 0 noEdge .construction) → y ≡ bit (getD (s .edges) 1 noEdge .construction) → z ≡ bit (getD (s .edges) 2 noEdge .construction)
+    → s .cost / 256 ∷ s .cost % 256 ∷ s .count ∷ 0
+    ∷ getD (s .edges) 0 noEdge .position ∷ getD (s .edges) 0 noEdge .shortcut ∷ getD (s .edges) 0 noEdge .peer ∷ x
+    ∷ getD (s .edges) 1 noEdge .position ∷ getD (s .edges) 1 noEdge .shortcut ∷ getD (s .edges) 1 noEdge .peer ∷ y
+    ∷ getD (s .edges) 2 noEdge .position ∷ getD (s .edges) 2 noEdge .shortcut ∷ getD (s .edges) 2 noEdge .peer ∷ z ∷ []
+    ≡ recordOctets s
+unfolding recordOctets edgeBytes edgeOctets octets2 range flatMap
+record-is s x y z h p q r =
+    let e : s .cost / 256 ≡ s .cost / 2 ^ 8 % 2 ^ 8 = omega arith in
+    cc
+
+record-length : (s : Solution) → length (recordOctets s) ≡ solutionSize
+unfolding recordOctets edgeBytes edgeOctets octets2 range flatMap
+record-length s = refl
+
+-- ---- the record of a chain
+
+pub solution-is : (c : List Edge) (s : Solution) (w n : ℕ) (es : List SolutionEdge) → s ≡ record { cost = w; count = n; edges = es }
+    → w ≡ cost c → n ≡ length c → es ≡ map solutionEdge c ++ replicate (maxEdges - length c) noEdge → s ≡ solutionOf c
+unfolding solutionOf
+solution-is c s w n es e p q r = cc
+
+record-of : (c : List Edge) → length c ≤ maxEdges → recordOctets (solutionOf c) ≡ solutionOctets c
+unfolding recordOctets edgeBytes edgeOctets octets2 range flatMap solutionOf solutionOctets padded noEdge edgeAt bit
+record-of [] h = refl
+record-of (e ∷ []) h = refl
+record-of (e ∷ f ∷ []) h = refl
+record-of (e ∷ f ∷ g ∷ []) h = refl
+record-of (e ∷ f ∷ g ∷ i ∷ c) h = absurd (omega arith)
+
+-- ---- pushed
+
+pub push-room : (slots n : ℕ) (out next r : List ℕ) (s : Solution) → n < slots → solutionSize * slots ≤ length out → r ≡ recordOctets s
+    → next ≡ written out (solutionSize * n) (take solutionSize (drop 0 r)) → (n + 1, next) ≡ pushRecord slots (n, out) (recordOctets s)
+unfolding putAt
+push-room slots n out next r s h room e w =
+    let l : length (recordOctets s) ≡ solutionSize = record-length s in
+    let all : take solutionSize (drop 0 r) ≡ recordOctets s = ap (take solutionSize) e ∙ take-all solutionSize (recordOctets s) (omega arith) in
+    let at : solutionSize * n + length (recordOctets s) ≡ solutionSize * n + solutionSize = omega arith in
+    let put : next ≡ putAt out n (recordOctets s) =
+    w ∙ ap (written out (solutionSize * n)) all ∙ written-within out (solutionSize * n) (recordOctets s) (omega arith)
+    ∙ ap (λ i. take (solutionSize * n) out ++ recordOctets s ++ drop i out) at in
+    ap (λ o. (n + 1, o)) put ∙ sym (record-room slots n out (recordOctets s) h)
+
+pub pushes-one : (slots n r : ℕ) (out next : List ℕ) (c : List Edge) (s : Solution) → (r, next) ≡ pushRecord slots (n, out) (recordOctets s)
+    → s ≡ solutionOf c → length c ≤ maxEdges → n ≤ slots + 1 → Pushes slots (n, out) (r, next) (c ∷ [])
+pushes-one slots n r out next c s e q h m =
+    let st : (r, next) ≡ pushed slots (n, out) (c ∷ []) =
+    e ∙ ap (λ t. pushRecord slots (n, out) (recordOctets t)) q ∙ ap (pushRecord slots (n, out)) (record-of c h) ∙ sym (pushed-one slots (n, out) c) in
+    record { state = st; most = subst (λ (t : Slots). t .0 ≤ slots + 1) (sym st) (pushed-most slots n out (c ∷ []) m) }

@@ -1,0 +1,238 @@
+-- What the search finds in one segment, by what the code is told of it.
+-- Assumes nothing.
+use Prim.Native.Nat.{ℕ, _+_, _-_, _≤_, _<_}
+use native.Mathlib.Omega.{arith}
+use mathlib.Core.Path.{_≡_, refl, sym, ap, ap₂, _∙_}
+use mathlib.Core.Bool.{Bool, true, false}
+use mathlib.Core.List.{List, [], _∷_, _++_, map, flatMap, append-nil, append-assoc}
+use lib.ListN.{length}
+use lib.Dec.{ltb, eqb}
+use borrow.Author.Tests.{lt-ltb, le-ltb, eq-eqb, ne-eqb}
+use Rattle.spec.specs.declared.IsdAsn.{IsdAsn}
+use Rattle.spec.specs.declared.Vertex.the-variants.{AS}
+use Rattle.spec.specs.declared.Edge.{Edge}
+use Rattle.spec.specs.Basics.{if_then_else_, range}
+use Rattle.spec.specs.Book.{Segment, segmentAt, segmentCount, cores}
+use Rattle.spec.specs.Edges.{sameAs, sameVertex, leafAs}
+use Rattle.graph.specs.declared.Found.{Found}
+use Rattle.graph.specs.declared.Found.the-variants.{Edge as FoundEdge, Nothing}
+use Rattle.graph.specs.Lookup.{between, leavingOf, foundEdges}
+use Rattle.graph.specs.Leaving.{entryCount, peerCountOf, asUp, peerUp, upsAt, leavingIn}
+use Rattle.graph.specs.Search.{overFirsts, pair, triple, pairsIn, triplesIn, acrossWith, chainsWith, chainsFrom, chainsIn, foundChains}
+use Rattle.spec.proofs.Lists.{flatMap-append}
+use Rattle.graph.proofs.SearchLists.{range-turn, range-end}
+use Rattle.graph.proofs.SearchLaws.{over-split, over-none, from-arrived, from-onward}
+
+-- ---- the kind of a position
+
+pub core-at : (b : List ℕ) (k : ℕ) → k < cores b → segmentAt b k .core ≡ true
+unfolding segmentAt
+core-at b k h = lt-ltb k (cores b) h
+
+other-at : (b : List ℕ) (k : ℕ) → cores b ≤ k → segmentAt b k .core ≡ false
+unfolding segmentAt
+other-at b k h = le-ltb k (cores b) h
+
+-- ---- what is found
+
+found-edge : (r : Found) (l : List Edge) (g : Edge) → foundEdges r ≡ l → r ≡ FoundEdge g → l ≡ g ∷ []
+unfolding foundEdges
+found-edge r l g e q = sym e ∙ ap foundEdges q
+
+found-nothing : (r : Found) (l : List Edge) → foundEdges r ≡ l → r ≡ Nothing → l ≡ []
+unfolding foundEdges
+found-nothing r l e q = sym e ∙ ap foundEdges q
+
+module _ (b : List ℕ) (dst : IsdAsn) (e : Edge) (k : ℕ) where
+  triples-other : (f : Edge) → cores b ≤ k → triplesIn b dst e f (segmentAt b k) ≡ map (triple b dst e f) (between (segmentAt b k) (f .dst) (AS dst))
+  unfolding triplesIn
+  triples-other f h = ap (λ t. if t then [] else map (triple b dst e f) (between (segmentAt b k) (f .dst) (AS dst))) (other-at b k h)
+
+  pub triple-found : (f : Edge) (r : Found) (g : Edge) → cores b ≤ k → foundEdges r ≡ between (segmentAt b k) (f .dst) (AS dst) → r ≡ FoundEdge g
+      → triplesIn b dst e f (segmentAt b k) ≡ (e ∷ f ∷ g ∷ []) ∷ []
+  unfolding triple
+  triple-found f r g h p q = triples-other f h ∙ ap (map (triple b dst e f)) (found-edge r _ g p q)
+
+  pub triple-nothing : (f : Edge) (r : Found) → cores b ≤ k → foundEdges r ≡ between (segmentAt b k) (f .dst) (AS dst) → r ≡ Nothing
+      → triplesIn b dst e f (segmentAt b k) ≡ []
+  triple-nothing f r h p q = triples-other f h ∙ ap (map (triple b dst e f)) (found-nothing r _ p q)
+
+  pairs-other : cores b ≤ k → chainsWith b dst e (segmentAt b k) ≡ map (pair b dst e) (between (segmentAt b k) (e .dst) (AS dst))
+  unfolding chainsWith pairsIn
+  pairs-other h =
+      ap (λ t. if t then (if e .core then [] else flatMap (acrossWith b dst e) (leavingOf (e .dst) (segmentAt b k)))
+      else map (pair b dst e) (between (segmentAt b k) (e .dst) (AS dst))) (other-at b k h)
+
+  pub pair-found : (r : Found) (f : Edge) → cores b ≤ k → foundEdges r ≡ between (segmentAt b k) (e .dst) (AS dst) → r ≡ FoundEdge f
+      → chainsWith b dst e (segmentAt b k) ≡ (e ∷ f ∷ []) ∷ []
+  unfolding pair
+  pair-found r f h p q = pairs-other h ∙ ap (map (pair b dst e)) (found-edge r _ f p q)
+
+  pub pair-nothing : (r : Found) → cores b ≤ k → foundEdges r ≡ between (segmentAt b k) (e .dst) (AS dst) → r ≡ Nothing
+      → chainsWith b dst e (segmentAt b k) ≡ []
+  pair-nothing r h p q = pairs-other h ∙ ap (map (pair b dst e)) (found-nothing r _ p q)
+
+  across-core : k < cores b → e .core ≡ false → chainsWith b dst e (segmentAt b k) ≡ flatMap (acrossWith b dst e) (leavingOf (e .dst) (segmentAt b k))
+  unfolding chainsWith
+  across-core h q =
+      ap (λ t. if t then (if e .core then [] else flatMap (acrossWith b dst e) (leavingOf (e .dst) (segmentAt b k))) else pairsIn b dst e (segmentAt b k))
+      (core-at b k h)
+      ∙ ap (λ t. if t then [] else flatMap (acrossWith b dst e) (leavingOf (e .dst) (segmentAt b k))) q
+
+  pub across-found : (r : Found) (f : Edge) → k < cores b → e .core ≡ false → foundEdges r ≡ leavingOf (e .dst) (segmentAt b k) → r ≡ FoundEdge f
+      → chainsWith b dst e (segmentAt b k) ≡ acrossWith b dst e f
+  unfolding flatMap
+  across-found r f h c p q =
+      across-core h c ∙ ap (flatMap (acrossWith b dst e)) (found-edge r _ f p q) ∙ append-nil (acrossWith b dst e f)
+
+  pub across-nothing : (r : Found) → k < cores b → e .core ≡ false → foundEdges r ≡ leavingOf (e .dst) (segmentAt b k) → r ≡ Nothing
+      → chainsWith b dst e (segmentAt b k) ≡ []
+  unfolding flatMap
+  across-nothing r h c p q = across-core h c ∙ ap (flatMap (acrossWith b dst e)) (found-nothing r _ p q)
+
+-- ---- core and non-core positions apart
+
+module _ {A : Type 0} (f : Segment → List A) (b : List ℕ) (c n : ℕ) (q : n ≡ segmentCount b) (within : c ≤ n) where
+  over-cores : overFirsts f b 0 (segmentCount b) ≡ overFirsts f b 0 c ++ overFirsts f b c (n - c)
+  over-cores =
+      let e : segmentCount b ≡ c + (n - c) = omega arith in
+      let z : 0 + c ≡ c = omega arith in
+      ap (overFirsts f b 0) e ∙ over-split f b 0 c (n - c) ∙ ap (λ k. overFirsts f b 0 c ++ overFirsts f b k (n - c)) z
+
+  -- where the core positions give nothing
+  skip-cores : ((k : ℕ) → k < c → f (segmentAt b k) ≡ []) → overFirsts f b 0 (segmentCount b) ≡ overFirsts f b c (n - c)
+  skip-cores h = over-cores ∙ ap (λ l. l ++ overFirsts f b c (n - c)) (over-none f b 0 c (λ j p r. h j (omega arith)))
+
+pub over-start : {A : Type 0} (f : Segment → List A) (b : List ℕ) (n : ℕ) → overFirsts f b 0 n ≡ overFirsts f b 0 (n - 0)
+over-start f b n =
+    let e : n ≡ n - 0 = omega arith in
+    ap (overFirsts f b 0) e
+
+module _ (b : List ℕ) (dst : IsdAsn) (e : Edge) (t : Bool) where
+  -- ---- a second edge, by whether it arrives
+
+  pub across-arrived : (f : Edge) → t ≡ sameVertex (f .dst) (AS dst) → t ≡ true → acrossWith b dst e f ≡ (e ∷ f ∷ []) ∷ []
+  unfolding acrossWith pair
+  across-arrived f p q = ap (λ s. if s then (e ∷ f ∷ []) ∷ [] else overFirsts (triplesIn b dst e f) b 0 (segmentCount b)) (sym p ∙ q)
+
+  pub across-onward : (f : Edge) (c n : ℕ) → c ≡ cores b → n ≡ segmentCount b → c ≤ n → t ≡ sameVertex (f .dst) (AS dst) → t ≡ false
+      → acrossWith b dst e f ≡ overFirsts (triplesIn b dst e f) b c (n - c)
+  unfolding acrossWith triplesIn
+  across-onward f c n ec en h p q =
+      ap (λ s. if s then pair b dst e f ∷ [] else overFirsts (triplesIn b dst e f) b 0 (segmentCount b)) (sym p ∙ q)
+      ∙ skip-cores (triplesIn b dst e f) b c n en h
+      (λ k l. ap (λ s. if s then [] else map (triple b dst e f) (between (segmentAt b k) (f .dst) (AS dst))) (core-at b k (omega arith)))
+
+  -- ---- a first edge
+
+  pub chains-arrived : t ≡ sameVertex (e .dst) (AS dst) → t ≡ true → chainsFrom b dst e ≡ (e ∷ []) ∷ []
+  chains-arrived p q = from-arrived b dst e (sym p ∙ q)
+
+  module _ (c n : ℕ) (ec : c ≡ cores b) (en : n ≡ segmentCount b) (h : c ≤ n) (p : t ≡ sameVertex (e .dst) (AS dst)) (q : t ≡ false) where
+    -- after a core edge no core edge
+    pub chains-core : e .core ≡ true → chainsFrom b dst e ≡ overFirsts (chainsWith b dst e) b c (n - c)
+    unfolding chainsWith
+    chains-core k =
+        from-onward b dst e (sym p ∙ q)
+        ∙ skip-cores (chainsWith b dst e) b c n en h
+        (λ j l.
+        ap₂ (λ s u. if s then (if u then [] else flatMap (acrossWith b dst e) (leavingOf (e .dst) (segmentAt b j))) else pairsIn b dst e (segmentAt b j))
+        (core-at b j (omega arith)) k)
+
+    pub chains-other : chainsFrom b dst e ≡ overFirsts (chainsWith b dst e) b 0 c ++ overFirsts (chainsWith b dst e) b c (n - c)
+    chains-other = from-onward b dst e (sym p ∙ q) ∙ over-cores (chainsWith b dst e) b c n en h
+
+-- ---- the edges of one segment that leave the source
+
+module _ (f : Edge → List (List Edge)) where
+  pub of-edge : (r : Found) (e : Edge) → r ≡ FoundEdge e → flatMap f (foundEdges r) ≡ f e
+  unfolding flatMap foundEdges
+  of-edge r e q = ap (λ s. flatMap f (foundEdges s)) q ∙ append-nil (f e)
+
+  pub of-nothing : (r : Found) → r ≡ Nothing → flatMap f (foundEdges r) ≡ []
+  unfolding flatMap foundEdges
+  of-nothing r q = ap (λ s. flatMap f (foundEdges s)) q
+
+  module _ (g : ℕ → List Edge) where
+    pub each-start : (n m : ℕ) → m ≡ n → flatMap f (flatMap g (range 0 n)) ≡ flatMap f (flatMap g (range 0 (m - 0)))
+    each-start n m q =
+        let e : n ≡ m - 0 = omega arith in
+        ap (λ k. flatMap f (flatMap g (range 0 k))) e
+
+    each-turn : (i n : ℕ) → i < n → flatMap f (flatMap g (range i (n - i))) ≡ flatMap f (g i) ++ flatMap f (flatMap g (range (i + 1) (n - (i + 1))))
+    unfolding flatMap
+    each-turn i n h =
+        ap (λ l. flatMap f (flatMap g l)) (range-turn i n h) ∙ flatMap-append f (g i) (flatMap g (range (i + 1) (n - (i + 1))))
+
+    pub each-found : (i n : ℕ) (r : Found) → i < n → foundEdges r ≡ g i
+        → flatMap f (flatMap g (range i (n - i))) ≡ flatMap f (foundEdges r) ++ flatMap f (flatMap g (range (i + 1) (n - (i + 1))))
+    each-found i n r h q = each-turn i n h ∙ ap (λ l. flatMap f l ++ flatMap f (flatMap g (range (i + 1) (n - (i + 1))))) (sym q)
+
+    pub each-end : (i n : ℕ) → n ≤ i → flatMap f (flatMap g (range i (n - i))) ≡ []
+    unfolding flatMap range
+    each-end i n h =
+        let e : n - i ≡ 0 = omega arith in
+        ap (λ k. flatMap f (flatMap g (range i k))) e
+
+  -- an entry's edges: to its AS, and to its peering ends
+  pub ups-turn : (seg : Segment) (i n : ℕ) (r : Found) → i < n → foundEdges r ≡ asUp seg i
+      → flatMap f (flatMap (upsAt seg) (range i (n - i)))
+      ≡ flatMap f (foundEdges r) ++ (flatMap f (flatMap (peerUp seg i) (range 0 (peerCountOf seg i))) ++ flatMap f (flatMap (upsAt seg) (range (i + 1) (n - (i + 1)))))
+  unfolding upsAt
+  ups-turn seg i n r h q =
+      let peers : List Edge = flatMap (peerUp seg i) (range 0 (peerCountOf seg i)) in
+      let rest : List (List Edge) = flatMap f (flatMap (upsAt seg) (range (i + 1) (n - (i + 1)))) in
+      each-turn (upsAt seg) i n h
+      ∙ ap (λ l. l ++ rest) (flatMap-append f (asUp seg i) peers ∙ ap (λ l. flatMap f l ++ flatMap f peers) (sym q))
+      ∙ append-assoc (flatMap f (foundEdges r)) (flatMap f peers) rest
+
+-- the chains that begin with an edge of a segment, by what the segment is
+
+module _ (b : List ℕ) (dst src : IsdAsn) (k : ℕ) where
+  -- what leaves the source, by the tests in order
+  leaving-by : (s t u : Bool) → eqb (entryCount (segmentAt b k)) 0 ≡ s → segmentAt b k .core ≡ t → sameAs (leafAs (segmentAt b k)) src ≡ u
+      → leavingIn (segmentAt b k) src
+      ≡ (if s then [] else if t then leavingOf (AS src) (segmentAt b k) else if u then flatMap (upsAt (segmentAt b k)) (range 0 (entryCount (segmentAt b k)))
+      else between (segmentAt b k) (AS src) (AS (leafAs (segmentAt b k))))
+  unfolding leavingIn
+  leaving-by s t u p q r = cc
+
+  pub in-empty : (n : ℕ) → n ≡ entryCount (segmentAt b k) → n ≡ 0 → chainsIn b dst src (segmentAt b k) ≡ []
+  unfolding chainsIn flatMap
+  in-empty n p q = ap (flatMap (chainsFrom b dst)) (leaving-by true _ _ (eq-eqb _ 0 (sym p ∙ q)) refl refl)
+
+  module _ (n : ℕ) (p : n ≡ entryCount (segmentAt b k)) (some : n ≡ 0 → ⊥) where
+    filled : eqb (entryCount (segmentAt b k)) 0 ≡ false
+    filled = ne-eqb _ 0 (λ q. some (p ∙ q))
+
+    pub in-core : (r : Found) → k < cores b → foundEdges r ≡ leavingOf (AS src) (segmentAt b k) → chainsIn b dst src (segmentAt b k) ≡ flatMap (chainsFrom b dst) (foundEdges r)
+    unfolding chainsIn
+    in-core r h q = ap (flatMap (chainsFrom b dst)) (leaving-by false true _ filled (core-at b k h) refl ∙ sym q)
+
+    module _ (h : cores b ≤ k) (leaf : IsdAsn) (e : leaf ≡ leafAs (segmentAt b k)) (u : Bool) (w : u ≡ sameAs leaf src) where
+      tested : sameAs (leafAs (segmentAt b k)) src ≡ u
+      tested = ap (λ a. sameAs a src) (sym e) ∙ sym w
+
+      pub in-leaf : (m : ℕ) → m ≡ n → u ≡ true → chainsIn b dst src (segmentAt b k) ≡ flatMap (chainsFrom b dst) (flatMap (upsAt (segmentAt b k)) (range 0 m))
+      unfolding chainsIn
+      in-leaf m i q =
+          ap (flatMap (chainsFrom b dst))
+          (leaving-by false false true filled (other-at b k h) (tested ∙ q) ∙ ap (λ j. flatMap (upsAt (segmentAt b k)) (range 0 j)) (sym (i ∙ p)))
+
+      pub in-other : (r : Found) → u ≡ false → foundEdges r ≡ between (segmentAt b k) (AS src) (AS leaf)
+          → chainsIn b dst src (segmentAt b k) ≡ flatMap (chainsFrom b dst) (foundEdges r)
+      unfolding chainsIn
+      in-other r q i =
+          ap (flatMap (chainsFrom b dst))
+          (leaving-by false false false filled (other-at b k h) (tested ∙ q) ∙ ap (λ a. between (segmentAt b k) (AS src) (AS a)) (sym e) ∙ sym i)
+
+-- ---- all
+
+module _ (b : List ℕ) (dst src : IsdAsn) (t : Bool) (p : t ≡ sameAs src dst) where
+  pub found-none : t ≡ true → foundChains b dst src ≡ []
+  unfolding foundChains
+  found-none q = ap (λ s. if s then [] else overFirsts (chainsIn b dst src) b 0 (segmentCount b)) (sym p ∙ q)
+
+  pub found-all : (n : ℕ) → t ≡ false → n ≡ segmentCount b → foundChains b dst src ≡ overFirsts (chainsIn b dst src) b 0 n
+  unfolding foundChains
+  found-all n q e = ap (λ s. if s then [] else overFirsts (chainsIn b dst src) b 0 (segmentCount b)) (sym p ∙ q) ∙ ap (overFirsts (chainsIn b dst src) b 0) (sym e)

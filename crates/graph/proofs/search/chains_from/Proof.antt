@@ -1,0 +1,41 @@
+-- The edge arrives, or second edges are looked for: after a core edge only in non-core segments.
+-- Assumes nothing.
+use native.Mathlib.Omega.{arith}
+use Rattle.graph.proofs.PushedTurns.{pushes-as, pushes-both}
+use Rattle.graph.proofs.SearchTurns.{chains-arrived, chains-core, chains-other}
+use borrow.Author.Needs.{needs}
+use Rattle.graph.proofs.search.chains_from.Statement.{statement}
+use Rattle.graph.proofs.search.chains_from.Tie as tie
+
+returns : tie.Need-returns
+returns c =
+    pushes-as (c .before .before .push-one .ensures)
+    (chains-arrived _ _ _ _ (c .before .before .before .before .before .same-vertex .ensures) (c .before .before .before .before .if1 .taken))
+
+returns-2 : tie.Need-returns-2
+returns-2 c =
+    let p = c .before .before .before .before .before .before .before .before .before .before .pre .0 in
+    pushes-as (c .before .before .pairs .ensures)
+    (chains-core _ _ _ _ _ _ (p .cores) (p .count) (p .within) (c .before .before .before .before .before .before .same-vertex .ensures) (c .before .before .before .before .before .if1 .left) (c .before .before .before .before .if2 .taken))
+
+returns-3 : tie.Need-returns-3
+returns-3 c =
+    let p = c .before .before .before .before .before .before .before .before .before .before .before .before .before .before .pre .0 in
+    pushes-both (c .before .before .before .before .before .before .across .ensures) (c .before .before .pairs2 .ensures) (omega arith)
+    (chains-other _ _ _ _ _ _ (p .cores) (p .count) (p .within) (c .before .before .before .before .before .before .before .before .before .before .same-vertex .ensures) (c .before .before .before .before .before .before .before .before .before .if1 .left))
+
+pub chains-from-spec : {M : Type 1} → statement M
+chains-from-spec =
+    tie.close
+    (tie.spec
+    (λ c κs. search needs)
+    (λ c κs. search needs)
+    (λ c. search needs)
+    returns
+    (λ c κs. search needs)
+    (λ c. search needs)
+    returns-2
+    (λ c κs. search needs)
+    (λ c κs. search needs)
+    (λ c. search needs)
+    returns-3)

@@ -1,0 +1,17 @@
+-- A Boolean as a number.
+-- Assumes nothing.
+use mathlib.Core.Path.{sym, ap}
+use Rattle.spec.specs.Records.{bit}
+use Rattle.graph.proofs.slots.bit.Statement.{statement}
+use Rattle.graph.proofs.slots.bit.Tie as tie
+
+returns : tie.Need-returns
+unfolding bit
+returns c = sym (ap bit (c .if1 .taken))
+
+returns-2 : tie.Need-returns-2
+unfolding bit
+returns-2 c = sym (ap bit (c .if1 .left))
+
+pub bit-spec : {M : Type 1} → statement M
+bit-spec = tie.close (tie.spec returns returns-2)

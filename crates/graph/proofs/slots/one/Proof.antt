@@ -1,0 +1,25 @@
+-- A chain of one edge.
+-- Assumes nothing.
+use native.Mathlib.Omega.{arith}
+use mathlib.Core.Path.{refl}
+use Rattle.spec.specs.Basics.{sum}
+use Rattle.spec.specs.Order.{cost, weightOf}
+use Rattle.graph.proofs.PushedRecords.{solution-is}
+use borrow.Author.Needs.{needs}
+use Rattle.graph.proofs.slots.one.Statement.{statement}
+use Rattle.graph.proofs.slots.one.Tie as tie
+
+returns : tie.Need-returns
+unfolding cost sum weightOf
+returns c = solution-is _ _ _ _ _ (c .new .ensures) (omega arith) refl (cc)
+
+pub one-spec : {M : Type 1} → statement M
+one-spec =
+    tie.close
+    (tie.spec
+    (λ c κs. search needs)
+    (λ c κs. search needs)
+    (λ c κs. search needs)
+    (λ c κs. search needs)
+    (λ c κs. search needs)
+    returns)

@@ -1,0 +1,571 @@
+// The stored edges of one segment, worked out of the book where it lies: what it stores between two
+// vertices, and what it stores that leaves one.
+ghost use mathlib.Core.Path.{_≡_};
+ghost use mathlib.Core.Bool.{true, false, _&&_};
+ghost use Prim.Native.Nat.{_+_, _*_, _-_, _^_, _≤_, _<_};
+ghost use lib.ListN.{getD};
+ghost use Rattle.spec.specs.declared.Vertex.the-variants.{AS};
+ghost use Rattle.spec.specs.declared.Verdict.the-variants.{Accepted};
+ghost use Rattle.spec.specs.Limits.{maxSegments, maxEntries};
+ghost use Rattle.spec.specs.Book.{segmentAt, segmentCount, verdict, peerCount, peerEntryAt, peerOffset};
+ghost use Rattle.spec.specs.Edges.{sameAs, sameVertex, asOf, leafAs, inConstruction};
+ghost use Rattle.graph.specs.Lookup.{between, leavingOf, foundEdges};
+ghost use Rattle.graph.specs.Leaving.{entryCount, peerCountOf, linkOf, asUp, peerUp};
+ghost use Rattle.graph.specs.Scan.{joins, entryWith, entryLinked, peerLinked, asEdgeAt, downPeerEdge};
+ghost use Rattle.graph.specs.Link.{endOf, samePeer};
+ghost use Rattle.graph.specs.Ready.{Ready, Filled};
+use crate::Found;
+use spec::AsEntry;
+use spec::Edge;
+use spec::IsdAsn;
+use spec::Limits;
+use spec::PeerEntry;
+use spec::Vertex;
+
+pub(crate) const PLACES: usize = Limits::SEGMENTS * Limits::ENTRIES;
+
+// ---- ends
+
+pub(crate) fn same_as(a: IsdAsn, b: IsdAsn) -> bool
+    ensures { λ r. ⌜ r ≡ sameAs a b ⌝ }
+{
+    a.0 == b.0
+}
+
+// A peering link from one side: the AS and the interface there, and those of the other side.
+struct Link {
+    local: IsdAsn,
+    ingress: u16,
+    peer: IsdAsn,
+    interface: u16,
+}
+
+fn same_link(a: Link, b: Link) -> bool
+    ensures { λ r. ⌜ r ≡ sameVertex (endOf a) (endOf b) ⌝ }
+{
+    if a.ingress != b.ingress {
+        return false;
+    }
+    if a.interface != b.interface {
+        return false;
+    }
+    if !same_as(a.local, b.local) {
+        return false;
+    }
+    same_as(a.peer, b.peer)
+}
+
+pub(crate) fn same_vertex(v: Vertex, w: Vertex) -> bool
+    ensures { λ r. ⌜ r ≡ sameVertex v w ⌝ }
+{
+    match v {
+        Vertex::AS(a) => match w {
+            Vertex::AS(b) => same_as(a, b),
+            Vertex::Peering {
+                local_ia: _,
+                local_ifid: _,
+                peer_ia: _,
+                peer_ifid: _,
+            } => false,
+        },
+        Vertex::Peering {
+            local_ia: l,
+            local_ifid: i,
+            peer_ia: p,
+            peer_ifid: j,
+        } => match w {
+            Vertex::AS(_) => false,
+            Vertex::Peering {
+                local_ia: m,
+                local_ifid: g,
+                peer_ia: q,
+                peer_ifid: h,
+            } => {
+                let a = Link {
+                    local: l,
+                    ingress: i,
+                    peer: p,
+                    interface: j,
+                };
+                let b = Link {
+                    local: m,
+                    ingress: g,
+                    peer: q,
+                    interface: h,
+                };
+                same_link(a, b)
+            }
+        },
+    }
+}
+
+// ---- entries
+
+// The segment at position k is a core segment.
+fn is_core(book: &[u8], k: u8) -> bool
+    ensures { λ r. ⌜ r ≡ segmentAt (now (book .entry)) k .core ⌝ }
+{
+    (k as u16) < segment::sizes(book).cores
+}
+
+pub(crate) fn entry_count(book: &[u8], k: u8) -> usize
+    ensures { λ r. ⌜ r ≡ entryCount (segmentAt (now (book .entry)) k) ⌝ }
+{
+    segment::head(book, k).entries as usize
+}
+
+// The same in an accepted book, where it is small.
+fn count_of(book: &[u8], k: u8) -> u8
+    requires { ⌜ verdict (now book) ≡ Accepted ⌝ }
+    requires { ⌜ k < segmentCount (now book) ⌝ }
+    ensures { λ r. ⌜ (r ≡ entryCount (segmentAt (now (book .entry)) k)) × (r ≤ maxEntries) ⌝ }
+{
+    segment::head(book, k).entries as u8
+}
+
+fn wide(x: u16) -> usize
+    ensures { λ r. ⌜ (r ≡ x) × (r < 2 ^ 16) ⌝ }
+{
+    x as usize
+}
+
+// Where entry i of the segment at position k starts.
+fn offset_at(table: &[u16; PLACES], k: u8, i: u8) -> usize
+    requires { ⌜ k < maxSegments ⌝ }
+    requires { ⌜ i < maxEntries ⌝ }
+    ensures { λ r. ⌜ (r ≡ getD (now (table .entry)) (maxEntries * k + i) 0) × (r < 2 ^ 16) ⌝ }
+{
+    wide(table[Limits::ENTRIES * (k as usize) + (i as usize)])
+}
+
+fn as_at(book: &[u8], table: &[u16; PLACES], k: u8, i: u8) -> IsdAsn
+    requires { ⌜ Ready (now book) (now table) ⌝ }
+    requires { ⌜ k < segmentCount (now book) ⌝ }
+    requires { ⌜ i < entryCount (segmentAt (now book) k) ⌝ }
+    ensures { λ r. ⌜ r ≡ asOf (segmentAt (now (book .entry)) k) i ⌝ }
+{
+    segment::isd_asn(book, offset_at(table, k, i))
+}
+
+// The AS of a segment's leaf.
+pub(crate) fn leaf_as(book: &[u8], table: &[u16; PLACES], k: u8) -> IsdAsn
+    requires { ⌜ Ready (now book) (now table) ⌝ }
+    requires { ⌜ k < segmentCount (now book) ⌝ }
+    requires { ⌜ 0 < entryCount (segmentAt (now book) k) ⌝ }
+    ensures { λ r. ⌜ r ≡ leafAs (segmentAt (now (book .entry)) k) ⌝ }
+{
+    as_at(book, table, k, count_of(book, k) - 1)
+}
+
+// The first of the entries below n that has an AS; n where none has.
+fn find_as(book: &[u8], table: &[u16; PLACES], k: u8, a: IsdAsn, n: u8) -> u8
+    requires { ⌜ Ready (now book) (now table) ⌝ }
+    requires { ⌜ k < segmentCount (now book) ⌝ }
+    requires { ⌜ n ≤ entryCount (segmentAt (now book) k) ⌝ }
+    ensures { λ r. ⌜ r ≡ entryWith (segmentAt (now (book .entry)) k) a n ⌝ }
+{
+    let mut i: u8 = 0;
+    while i < n {
+        if same_as(as_at(book, table, k, i), a) {
+            return i;
+        }
+        i += 1;
+    }
+    i
+}
+
+// ---- peers
+
+// The peer count is an entry's last byte.
+const PEER_COUNT: usize = AsEntry::SIZE - 1;
+
+fn peers_at(book: &[u8], at: usize) -> u8
+    requires { ⌜ at < 2 ^ 16 ⌝ }
+    ensures { λ r. ⌜ r ≡ peerCount (now (book .entry)) at ⌝ }
+{
+    octets::byte(book, at + PEER_COUNT)
+}
+
+pub(crate) fn peer_count(book: &[u8], table: &[u16; PLACES], k: u8, i: u8) -> usize
+    requires { ⌜ Ready (now book) (now table) ⌝ }
+    requires { ⌜ k < segmentCount (now book) ⌝ }
+    requires { ⌜ i < entryCount (segmentAt (now book) k) ⌝ }
+    ensures { λ r. ⌜ r ≡ peerCountOf (segmentAt (now (book .entry)) k) i ⌝ }
+{
+    peers_at(book, offset_at(table, k, i)) as usize
+}
+
+// Where peer p of the entry at an offset starts.
+fn peer_offset(at: usize, p: u8) -> usize
+    requires { ⌜ at < 2 ^ 16 ⌝ }
+    ensures { λ r. ⌜ r ≡ peerOffset at p ⌝ }
+{
+    at + AsEntry::SIZE + PeerEntry::SIZE * (p as usize)
+}
+
+// The peer at an offset is that of a link.
+fn same_peer(book: &[u8], at: usize, link: Link) -> bool
+    ensures { λ r. ⌜ r ≡ samePeer (peerEntryAt (now (book .entry)) at) link ⌝ }
+{
+    if octets::be16_past(book, at, 13) != link.ingress {
+        return false;
+    }
+    if octets::be16_past(book, at, 8) != link.interface {
+        return false;
+    }
+    same_as(segment::isd_asn(book, at), link.peer)
+}
+
+// One more than the last peer of entry i that has a link; 0 where none has.
+fn find_peer(book: &[u8], table: &[u16; PLACES], k: u8, i: u8, link: Link) -> u8
+    requires { ⌜ Ready (now book) (now table) ⌝ }
+    requires { ⌜ k < segmentCount (now book) ⌝ }
+    requires { ⌜ i < entryCount (segmentAt (now book) k) ⌝ }
+    ensures { λ r. ⌜ r ≡ peerLinked (segmentAt (now (book .entry)) k) (endOf link) i ⌝ }
+{
+    let at = offset_at(table, k, i);
+    if !same_as(segment::isd_asn(book, at), link.local) {
+        return 0;
+    }
+    let mut p = peers_at(book, at);
+    while p > 0 {
+        if same_peer(book, peer_offset(at, p - 1), link) {
+            return p;
+        }
+        p -= 1;
+    }
+    0
+}
+
+// The first of the entries below n that has a peer with a link; n where none has.
+fn find_linked(book: &[u8], table: &[u16; PLACES], k: u8, link: Link, n: u8) -> u8
+    requires { ⌜ Ready (now book) (now table) ⌝ }
+    requires { ⌜ k < segmentCount (now book) ⌝ }
+    requires { ⌜ n ≤ entryCount (segmentAt (now book) k) ⌝ }
+    ensures { λ r. ⌜ r ≡ entryLinked (segmentAt (now (book .entry)) k) (endOf link) n ⌝ }
+{
+    let mut i: u8 = 0;
+    while i < n {
+        if find_peer(book, table, k, i, link) > 0 {
+            return i;
+        }
+        i += 1;
+    }
+    i
+}
+
+// The link of peer p of entry i.
+fn link_at(book: &[u8], table: &[u16; PLACES], k: u8, i: u8, p: u8) -> Link
+    requires { ⌜ Ready (now book) (now table) ⌝ }
+    requires { ⌜ k < segmentCount (now book) ⌝ }
+    requires { ⌜ i < entryCount (segmentAt (now book) k) ⌝ }
+    requires { ⌜ p < peerCountOf (segmentAt (now book) k) i ⌝ }
+    ensures { λ r. ⌜ endOf r ≡ linkOf (segmentAt (now (book .entry)) k) i p ⌝ }
+{
+    let start = offset_at(table, k, i);
+    let at = peer_offset(start, p);
+    let local = segment::isd_asn(book, start);
+    let ingress = octets::be16_past(book, at, 13);
+    let peer = segment::isd_asn(book, at);
+    let interface = octets::be16_past(book, at, 8);
+    Link {
+        local: local,
+        ingress: ingress,
+        peer: peer,
+        interface: interface,
+    }
+}
+
+// ---- between two vertices
+
+// The AS edge between two vertices, at the first entry below the leaf that has an AS.
+fn as_edge(
+    book: &[u8],
+    table: &[u16; PLACES],
+    k: u8,
+    n: u8,
+    a: IsdAsn,
+    src: Vertex,
+    dst: Vertex,
+    construction: bool,
+) -> Found
+    requires { ⌜ Filled (now book) (now table) k n ⌝ }
+    requires { ⌜ segmentAt (now book) k .core ≡ false ⌝ }
+    requires { ⌜ construction ≡ inConstruction (segmentAt (now book) k) dst ⌝ }
+    ensures { λ r. ⌜ foundEdges r ≡ asEdgeAt (segmentAt (now (book .entry)) k) src dst (entryWith (segmentAt (now (book .entry)) k) a (n - 1)) ⌝ }
+{
+    let i = find_as(book, table, k, a, n - 1);
+    if i < n - 1 {
+        return Found::Edge(Edge {
+            src: src,
+            dst: dst,
+            weight: n - 1 - i,
+            shortcut: i,
+            peer: 0,
+            position: k,
+            construction: construction,
+            core: false,
+        });
+    }
+    Found::Nothing
+}
+
+// The edge to the leaf from the other side of a link, at the first entry that has the link.
+fn link_edge(
+    book: &[u8],
+    table: &[u16; PLACES],
+    k: u8,
+    n: u8,
+    link: Link,
+    src: Vertex,
+    dst: Vertex,
+) -> Found
+    requires { ⌜ Filled (now book) (now table) k n ⌝ }
+    requires { ⌜ segmentAt (now book) k .core ≡ false ⌝ }
+    requires { ⌜ true ≡ inConstruction (segmentAt (now book) k) dst ⌝ }
+    ensures { λ r. ⌜ foundEdges r ≡ downPeerEdge (segmentAt (now (book .entry)) k) src dst (endOf link) ⌝ }
+{
+    let i = find_linked(book, table, k, link, n);
+    if i < n {
+        let q = find_peer(book, table, k, i, link);
+        return Found::Edge(Edge {
+            src: src,
+            dst: dst,
+            weight: n - 1 - i,
+            shortcut: i,
+            peer: q,
+            position: k,
+            construction: true,
+            core: false,
+        });
+    }
+    Found::Nothing
+}
+
+// From a vertex to the leaf, whose AS is w.
+fn to_leaf(book: &[u8], table: &[u16; PLACES], k: u8, n: u8, v: Vertex, w: IsdAsn) -> Found
+    requires { ⌜ Filled (now book) (now table) k n ⌝ }
+    requires { ⌜ segmentAt (now book) k .core ≡ false ⌝ }
+    requires { ⌜ sameAs (leafAs (segmentAt (now book) k)) w ≡ true ⌝ }
+    ensures { λ r. ⌜ foundEdges r ≡ between (segmentAt (now (book .entry)) k) v (AS w) ⌝ }
+{
+    match v {
+        Vertex::AS(a) => as_edge(book, table, k, n, a, v, Vertex::AS(w), true),
+        Vertex::Peering {
+            local_ia: l,
+            local_ifid: i,
+            peer_ia: p,
+            peer_ifid: j,
+        } => {
+            let link = Link {
+                local: p,
+                ingress: j,
+                peer: l,
+                interface: i,
+            };
+            link_edge(book, table, k, n, link, v, Vertex::AS(w))
+        }
+    }
+}
+
+// From a vertex to an AS that is not the leaf's: only the leaf has such an edge.
+fn from_leaf(
+    book: &[u8],
+    table: &[u16; PLACES],
+    k: u8,
+    n: u8,
+    leaf: IsdAsn,
+    v: Vertex,
+    w: IsdAsn,
+) -> Found
+    requires { ⌜ Filled (now book) (now table) k n ⌝ }
+    requires { ⌜ segmentAt (now book) k .core ≡ false ⌝ }
+    requires { ⌜ leaf ≡ leafAs (segmentAt (now book) k) ⌝ }
+    requires { ⌜ sameAs leaf w ≡ false ⌝ }
+    ensures { λ r. ⌜ foundEdges r ≡ between (segmentAt (now (book .entry)) k) v (AS w) ⌝ }
+{
+    if same_vertex(v, Vertex::AS(leaf)) {
+        return as_edge(book, table, k, n, w, v, Vertex::AS(w), false);
+    }
+    Found::Nothing
+}
+
+fn both_same(a: IsdAsn, b: IsdAsn, c: IsdAsn, d: IsdAsn) -> bool
+    ensures { λ r. ⌜ r ≡ (sameAs a b && sameAs c d) ⌝ }
+{
+    if !same_as(a, b) {
+        return false;
+    }
+    same_as(c, d)
+}
+
+fn joins(first: IsdAsn, last: IsdAsn, a: IsdAsn, c: IsdAsn) -> bool
+    ensures { λ r. ⌜ r ≡ joins first last a c ⌝ }
+{
+    if both_same(first, a, last, c) {
+        return true;
+    }
+    both_same(last, a, first, c)
+}
+
+fn core_between(
+    book: &[u8],
+    table: &[u16; PLACES],
+    k: u8,
+    n: u8,
+    last: IsdAsn,
+    v: Vertex,
+    w: IsdAsn,
+) -> Found
+    requires { ⌜ Filled (now book) (now table) k n ⌝ }
+    requires { ⌜ segmentAt (now book) k .core ≡ true ⌝ }
+    requires { ⌜ last ≡ leafAs (segmentAt (now book) k) ⌝ }
+    ensures { λ r. ⌜ foundEdges r ≡ between (segmentAt (now (book .entry)) k) v (AS w) ⌝ }
+{
+    let Vertex::AS(a) = v else {
+        return Found::Nothing;
+    };
+    if joins(as_at(book, table, k, 0), last, a, w) {
+        return Found::Edge(Edge {
+            src: v,
+            dst: Vertex::AS(w),
+            weight: n - 1,
+            shortcut: 0,
+            peer: 0,
+            position: k,
+            construction: same_as(w, last),
+            core: true,
+        });
+    }
+    Found::Nothing
+}
+
+// The stored edge from a vertex to an AS. Most segments are passed over after a look at the leaf's AS.
+pub(crate) fn between(book: &[u8], table: &[u16; PLACES], k: u8, v: Vertex, w: IsdAsn) -> Found
+    requires { ⌜ Ready (now book) (now table) ⌝ }
+    requires { ⌜ k < segmentCount (now book) ⌝ }
+    ensures { λ r. ⌜ foundEdges r ≡ between (segmentAt (now (book .entry)) k) v (AS w) ⌝ }
+{
+    let n = count_of(book, k);
+    if n == 0 {
+        return Found::Nothing;
+    }
+    let leaf = as_at(book, table, k, n - 1);
+    if is_core(book, k) {
+        return core_between(book, table, k, n, leaf, v, w);
+    }
+    if same_as(leaf, w) {
+        return to_leaf(book, table, k, n, v, w);
+    }
+    from_leaf(book, table, k, n, leaf, v, w)
+}
+
+// ---- from a vertex
+
+// The stored edge of a core segment that leaves a vertex.
+pub(crate) fn core_leaving(book: &[u8], table: &[u16; PLACES], k: u8, v: Vertex) -> Found
+    requires { ⌜ Ready (now book) (now table) ⌝ }
+    requires { ⌜ k < segmentCount (now book) ⌝ }
+    requires { ⌜ segmentAt (now book) k .core ≡ true ⌝ }
+    ensures { λ r. ⌜ foundEdges r ≡ leavingOf v (segmentAt (now (book .entry)) k) ⌝ }
+{
+    let n = count_of(book, k);
+    if n == 0 {
+        return Found::Nothing;
+    }
+    let Vertex::AS(a) = v else {
+        return Found::Nothing;
+    };
+    let first = as_at(book, table, k, 0);
+    let last = as_at(book, table, k, n - 1);
+    if same_as(first, a) {
+        return Found::Edge(Edge {
+            src: Vertex::AS(first),
+            dst: Vertex::AS(last),
+            weight: n - 1,
+            shortcut: 0,
+            peer: 0,
+            position: k,
+            construction: true,
+            core: true,
+        });
+    }
+    if same_as(last, a) {
+        return Found::Edge(Edge {
+            src: Vertex::AS(last),
+            dst: Vertex::AS(first),
+            weight: n - 1,
+            shortcut: 0,
+            peer: 0,
+            position: k,
+            construction: false,
+            core: true,
+        });
+    }
+    Found::Nothing
+}
+
+// The edge from the leaf to the AS of entry i, where it stands.
+pub(crate) fn as_up(book: &[u8], table: &[u16; PLACES], k: u8, i: u8) -> Found
+    requires { ⌜ Ready (now book) (now table) ⌝ }
+    requires { ⌜ k < segmentCount (now book) ⌝ }
+    requires { ⌜ i < entryCount (segmentAt (now book) k) ⌝ }
+    ensures { λ r. ⌜ foundEdges r ≡ asUp (segmentAt (now (book .entry)) k) i ⌝ }
+{
+    let n = count_of(book, k);
+    if i == n - 1 {
+        return Found::Nothing;
+    }
+    let here = as_at(book, table, k, i);
+    if find_as(book, table, k, here, i) < i {
+        return Found::Nothing;
+    }
+    let leaf = as_at(book, table, k, n - 1);
+    Found::Edge(Edge {
+        src: Vertex::AS(leaf),
+        dst: Vertex::AS(here),
+        weight: n - 1 - i,
+        shortcut: i,
+        peer: 0,
+        position: k,
+        construction: same_as(here, leaf),
+        core: is_core(book, k),
+    })
+}
+
+// The edge from the leaf to the peering end of peer p of entry i, where it stands.
+pub(crate) fn peer_up(book: &[u8], table: &[u16; PLACES], k: u8, i: u8, p: u8) -> Found
+    requires { ⌜ Ready (now book) (now table) ⌝ }
+    requires { ⌜ k < segmentCount (now book) ⌝ }
+    requires { ⌜ i < entryCount (segmentAt (now book) k) ⌝ }
+    requires { ⌜ p < peerCountOf (segmentAt (now book) k) i ⌝ }
+    ensures { λ r. ⌜ foundEdges r ≡ peerUp (segmentAt (now (book .entry)) k) i p ⌝ }
+{
+    let link = link_at(book, table, k, i, p);
+    let q = find_peer(book, table, k, i, link);
+    if q - 1 != p {
+        return Found::Nothing;
+    }
+    if find_linked(book, table, k, link, i) < i {
+        return Found::Nothing;
+    }
+    let n = count_of(book, k);
+    let leaf = as_at(book, table, k, n - 1);
+    let local = link.local;
+    let peer = link.peer;
+    Found::Edge(Edge {
+        src: Vertex::AS(leaf),
+        dst: Vertex::Peering {
+            local_ia: local,
+            local_ifid: link.ingress,
+            peer_ia: peer,
+            peer_ifid: link.interface,
+        },
+        weight: n - i,
+        shortcut: i,
+        peer: q,
+        position: k,
+        construction: false,
+        core: is_core(book, k),
+    })
+}

@@ -1,0 +1,69 @@
+// The stored edges of a book, the chains of them and the list: what graph.rs calls the multigraph, worked
+// out of the book where it lies.
+ghost use mathlib.Core.Path.{_≡_};
+ghost use Prim.Native.Nat.{_*_, _/_, min};
+ghost use lib.ListN.{length};
+ghost use Rattle.sha256.specs.Message.{sha256};
+ghost use Rattle.spec.specs.declared.Verdict.the-variants.{Accepted};
+ghost use Rattle.spec.specs.Book.{verdict};
+ghost use Rattle.spec.specs.Records.{slots};
+ghost use Rattle.spec.specs.Answers.{listing};
+
+mod edges;
+mod search;
+mod slots;
+
+use spec::Edge;
+use spec::IsdAsn;
+use spec::Limits;
+use spec::ListAnswer;
+use spec::Refusal;
+use spec::Solution;
+use spec::Verdict;
+
+// What is found between two vertices.
+pub enum Found {
+    Edge(Edge),
+    Nothing,
+}
+
+// How many solutions fit in so many bytes.
+fn slots_of(bytes: usize) -> usize
+    ensures { λ r. ⌜ r ≡ slots bytes ⌝ }
+{
+    let n = bytes / Solution::SIZE;
+    if n < Limits::SLOTS {
+        return n;
+    }
+    Limits::SLOTS
+}
+
+// The list of an accepted book.
+fn list_accepted(src: IsdAsn, dst: IsdAsn, book: &[u8], out: &mut [u8]) -> ListAnswer
+    requires { ⌜ verdict (now book) ≡ Accepted ⌝ }
+    ensures { λ r. ⌜ (r, now (out .exit)) ≡ listing sha256 (now (book .entry)) src dst (length (now (out .entry))) ⌝ }
+{
+    let room = slots_of(out.len());
+    let table = segment::entry_offsets(book);
+    let n = search::search(book, &table, src, dst, out, room);
+    if room < n {
+        octets::zero(out, 0);
+        return ListAnswer::Refused(Refusal::Full);
+    }
+    order::sort(book, out, n);
+    octets::zero(out, Solution::SIZE * n);
+    ListAnswer::Count(n)
+}
+
+// Lists every chain from `src` to `dst` into `out`: their count and their records in order, or a refusal
+// and zeros.
+pub fn list(src: IsdAsn, dst: IsdAsn, book: &[u8], out: &mut [u8]) -> ListAnswer
+    ensures { λ r. ⌜ (r, now (out .exit)) ≡ listing sha256 (now (book .entry)) src dst (length (now (out .entry))) ⌝ }
+{
+    let v = segment::verdict(book);
+    if let Verdict::Refused(r) = v {
+        octets::zero(out, 0);
+        return ListAnswer::Refused(r);
+    }
+    list_accepted(src, dst, book, out)
+}

@@ -1,0 +1,430 @@
+// The search for chains: each chain found is pushed into the lent slots. Every loop stops once the count
+// is past the slots.
+ghost use mathlib.Core.Path.{_≡_};
+ghost use mathlib.Core.Bool.{false};
+ghost use mathlib.Core.List.{flatMap};
+ghost use Prim.Native.Nat.{ℕ, _-_, _≤_, _<_};
+ghost use lib.ListN.{getD};
+ghost use Rattle.spec.specs.declared.Verdict.the-variants.{Accepted};
+ghost use Rattle.spec.specs.Limits.{maxSegments};
+ghost use Rattle.spec.specs.Basics.{range};
+ghost use Rattle.spec.specs.Book.{segmentAt, segments, segmentCount, cores};
+ghost use Rattle.spec.specs.Edges.{isFirst};
+ghost use Rattle.graph.specs.Lookup.{foundEdges};
+ghost use Rattle.graph.specs.Leaving.{entryCount, peerCountOf, peerUp, upsAt};
+ghost use Rattle.graph.specs.Search.{overFirsts, chainsFrom, triplesIn, acrossWith, chainsWith, chainsIn, foundChains};
+ghost use Rattle.graph.specs.Pushed.{Room, Pushes};
+ghost use Rattle.graph.specs.Ready.{Ready};
+ghost use Rattle.graph.specs.Prepared.{Flagged, Prepared};
+use crate::Found;
+use crate::edges;
+use crate::edges::PLACES;
+use crate::slots;
+use spec::Edge;
+use spec::IsdAsn;
+use spec::Limits;
+use spec::Vertex;
+
+// What the loops share: how many segments are core, how many there are, where chains arrive, how many slots there are.
+struct Query {
+    cores: u8,
+    count: u8,
+    dst: IsdAsn,
+    slots: usize,
+}
+
+// ---- a third edge
+
+// Two edges, and one of the non-core segment at k that arrives.
+fn triple_in(
+    book: &[u8],
+    table: &[u16; PLACES],
+    q: Query,
+    k: u8,
+    e: Edge,
+    f: Edge,
+    out: &mut [u8],
+    n: usize,
+) -> usize
+    requires { ⌜ Ready (now book) (now table) ⌝ }
+    requires { ⌜ (cores (now book) ≤ k) × (k < segmentCount (now book)) ⌝ }
+    requires { ⌜ Room (q .slots) n (now out) ⌝ }
+    ensures { λ r. ⌜ Pushes (q .slots) (n, now (out .entry)) (r, now (out .exit)) (triplesIn (now (book .entry)) (q .dst) e f (segmentAt (now (book .entry)) k)) ⌝ }
+{
+    let from = f.dst;
+    let dst = q.dst;
+    let found = edges::between(book, table, k, from, dst);
+    match found {
+        Found::Edge(g) => slots::push_three(out, q.slots, n, e, f, g),
+        Found::Nothing => n,
+    }
+}
+
+fn triples(
+    book: &[u8],
+    table: &[u16; PLACES],
+    flags: &[bool; Limits::SEGMENTS],
+    q: Query,
+    e: Edge,
+    f: Edge,
+    out: &mut [u8],
+    start: usize,
+) -> usize
+    requires { ⌜ Prepared (now book) (now table) (now flags) (q .cores) (q .count) ⌝ }
+    requires { ⌜ Room (q .slots) start (now out) ⌝ }
+    ensures { λ r. ⌜ Pushes (q .slots) (start, now (out .entry)) (r, now (out .exit)) (overFirsts (triplesIn (now (book .entry)) (q .dst) e f) (now (book .entry)) (q .cores) (q .count - q .cores)) ⌝ }
+{
+    let mut n = start;
+    let mut k = q.cores;
+    while k < q.count {
+        if q.slots < n {
+            return n;
+        }
+        if flags[k as usize] {
+            n = triple_in(book, table, q, k, e, f, out, n);
+        }
+        k += 1;
+    }
+    n
+}
+
+// ---- a second edge
+
+// An edge, and an edge of a core segment that follows it: it arrives, or a third follows.
+fn across_with(
+    book: &[u8],
+    table: &[u16; PLACES],
+    flags: &[bool; Limits::SEGMENTS],
+    q: Query,
+    e: Edge,
+    f: Edge,
+    out: &mut [u8],
+    n: usize,
+) -> usize
+    requires { ⌜ Prepared (now book) (now table) (now flags) (q .cores) (q .count) ⌝ }
+    requires { ⌜ Room (q .slots) n (now out) ⌝ }
+    ensures { λ r. ⌜ Pushes (q .slots) (n, now (out .entry)) (r, now (out .exit)) (acrossWith (now (book .entry)) (q .dst) e f) ⌝ }
+{
+    let to = f.dst;
+    let dst = q.dst;
+    if edges::same_vertex(to, Vertex::AS(dst)) {
+        return slots::push_two(out, q.slots, n, e, f);
+    }
+    triples(book, table, flags, q, e, f, out, n)
+}
+
+// The same for the edge of the core segment at k that follows.
+fn across_in(
+    book: &[u8],
+    table: &[u16; PLACES],
+    flags: &[bool; Limits::SEGMENTS],
+    q: Query,
+    k: u8,
+    e: Edge,
+    out: &mut [u8],
+    n: usize,
+) -> usize
+    requires { ⌜ Prepared (now book) (now table) (now flags) (q .cores) (q .count) ⌝ }
+    requires { ⌜ k < q .cores ⌝ }
+    requires { ⌜ e .core ≡ false ⌝ }
+    requires { ⌜ Room (q .slots) n (now out) ⌝ }
+    ensures { λ r. ⌜ Pushes (q .slots) (n, now (out .entry)) (r, now (out .exit)) (chainsWith (now (book .entry)) (q .dst) e (segmentAt (now (book .entry)) k)) ⌝ }
+{
+    let from = e.dst;
+    let found = edges::core_leaving(book, table, k, from);
+    match found {
+        Found::Edge(f) => across_with(book, table, flags, q, e, f, out, n),
+        Found::Nothing => n,
+    }
+}
+
+fn across(
+    book: &[u8],
+    table: &[u16; PLACES],
+    flags: &[bool; Limits::SEGMENTS],
+    q: Query,
+    e: Edge,
+    out: &mut [u8],
+    start: usize,
+) -> usize
+    requires { ⌜ Prepared (now book) (now table) (now flags) (q .cores) (q .count) ⌝ }
+    requires { ⌜ e .core ≡ false ⌝ }
+    requires { ⌜ Room (q .slots) start (now out) ⌝ }
+    ensures { λ r. ⌜ Pushes (q .slots) (start, now (out .entry)) (r, now (out .exit)) (overFirsts (chainsWith (now (book .entry)) (q .dst) e) (now (book .entry)) 0 (q .cores)) ⌝ }
+{
+    let mut n = start;
+    let mut k: u8 = 0;
+    while k < q.cores {
+        if q.slots < n {
+            return n;
+        }
+        if flags[k as usize] {
+            n = across_in(book, table, flags, q, k, e, out, n);
+        }
+        k += 1;
+    }
+    n
+}
+
+// An edge, and one of the non-core segment at k that arrives.
+fn pair_in(
+    book: &[u8],
+    table: &[u16; PLACES],
+    q: Query,
+    k: u8,
+    e: Edge,
+    out: &mut [u8],
+    n: usize,
+) -> usize
+    requires { ⌜ Ready (now book) (now table) ⌝ }
+    requires { ⌜ (cores (now book) ≤ k) × (k < segmentCount (now book)) ⌝ }
+    requires { ⌜ Room (q .slots) n (now out) ⌝ }
+    ensures { λ r. ⌜ Pushes (q .slots) (n, now (out .entry)) (r, now (out .exit)) (chainsWith (now (book .entry)) (q .dst) e (segmentAt (now (book .entry)) k)) ⌝ }
+{
+    let from = e.dst;
+    let dst = q.dst;
+    let found = edges::between(book, table, k, from, dst);
+    match found {
+        Found::Edge(f) => slots::push_two(out, q.slots, n, e, f),
+        Found::Nothing => n,
+    }
+}
+
+fn pairs(
+    book: &[u8],
+    table: &[u16; PLACES],
+    flags: &[bool; Limits::SEGMENTS],
+    q: Query,
+    e: Edge,
+    out: &mut [u8],
+    start: usize,
+) -> usize
+    requires { ⌜ Prepared (now book) (now table) (now flags) (q .cores) (q .count) ⌝ }
+    requires { ⌜ Room (q .slots) start (now out) ⌝ }
+    ensures { λ r. ⌜ Pushes (q .slots) (start, now (out .entry)) (r, now (out .exit)) (overFirsts (chainsWith (now (book .entry)) (q .dst) e) (now (book .entry)) (q .cores) (q .count - q .cores)) ⌝ }
+{
+    let mut n = start;
+    let mut k = q.cores;
+    while k < q.count {
+        if q.slots < n {
+            return n;
+        }
+        if flags[k as usize] {
+            n = pair_in(book, table, q, k, e, out, n);
+        }
+        k += 1;
+    }
+    n
+}
+
+// ---- a first edge
+
+// The chains that begin with an edge.
+fn chains_from(
+    book: &[u8],
+    table: &[u16; PLACES],
+    flags: &[bool; Limits::SEGMENTS],
+    q: Query,
+    e: Edge,
+    out: &mut [u8],
+    n: usize,
+) -> usize
+    requires { ⌜ Prepared (now book) (now table) (now flags) (q .cores) (q .count) ⌝ }
+    requires { ⌜ Room (q .slots) n (now out) ⌝ }
+    ensures { λ r. ⌜ Pushes (q .slots) (n, now (out .entry)) (r, now (out .exit)) (chainsFrom (now (book .entry)) (q .dst) e) ⌝ }
+{
+    let to = e.dst;
+    let dst = q.dst;
+    if edges::same_vertex(to, Vertex::AS(dst)) {
+        return slots::push_one(out, q.slots, n, e);
+    }
+    if e.core {
+        return pairs(book, table, flags, q, e, out, n);
+    }
+    let m = across(book, table, flags, q, e, out, n);
+    pairs(book, table, flags, q, e, out, m)
+}
+
+// The same for an edge that may not be there.
+fn chains_of(
+    book: &[u8],
+    table: &[u16; PLACES],
+    flags: &[bool; Limits::SEGMENTS],
+    q: Query,
+    found: Found,
+    out: &mut [u8],
+    n: usize,
+) -> usize
+    requires { ⌜ Prepared (now book) (now table) (now flags) (q .cores) (q .count) ⌝ }
+    requires { ⌜ Room (q .slots) n (now out) ⌝ }
+    ensures { λ r. ⌜ Pushes (q .slots) (n, now (out .entry)) (r, now (out .exit)) (flatMap (chainsFrom (now (book .entry)) (q .dst)) (foundEdges found)) ⌝ }
+{
+    match found {
+        Found::Edge(e) => chains_from(book, table, flags, q, e, out, n),
+        Found::Nothing => n,
+    }
+}
+
+// The chains that begin at the leaf with an edge to a peering end of entry i.
+fn peer_chains(
+    book: &[u8],
+    table: &[u16; PLACES],
+    flags: &[bool; Limits::SEGMENTS],
+    q: Query,
+    k: u8,
+    i: u8,
+    out: &mut [u8],
+    start: usize,
+) -> usize
+    requires { ⌜ Prepared (now book) (now table) (now flags) (q .cores) (q .count) ⌝ }
+    requires { ⌜ k < segmentCount (now book) ⌝ }
+    requires { ⌜ i < entryCount (segmentAt (now book) k) ⌝ }
+    requires { ⌜ Room (q .slots) start (now out) ⌝ }
+    ensures { λ r. ⌜ Pushes (q .slots) (start, now (out .entry)) (r, now (out .exit)) (flatMap (chainsFrom (now (book .entry)) (q .dst)) (flatMap (peerUp (segmentAt (now (book .entry)) k) i) (range 0 (peerCountOf (segmentAt (now (book .entry)) k) i)))) ⌝ }
+{
+    let count = edges::peer_count(book, table, k, i);
+    let mut n = start;
+    let mut p: u8 = 0;
+    while (p as usize) < count {
+        if q.slots < n {
+            return n;
+        }
+        let found = edges::peer_up(book, table, k, i, p);
+        n = chains_of(book, table, flags, q, found, out, n);
+        p += 1;
+    }
+    n
+}
+
+// The chains that begin at the leaf.
+fn leaf_chains(
+    book: &[u8],
+    table: &[u16; PLACES],
+    flags: &[bool; Limits::SEGMENTS],
+    q: Query,
+    k: u8,
+    count: u8,
+    out: &mut [u8],
+    start: usize,
+) -> usize
+    requires { ⌜ Prepared (now book) (now table) (now flags) (q .cores) (q .count) ⌝ }
+    requires { ⌜ k < segmentCount (now book) ⌝ }
+    requires { ⌜ count ≡ entryCount (segmentAt (now book) k) ⌝ }
+    requires { ⌜ Room (q .slots) start (now out) ⌝ }
+    ensures { λ r. ⌜ Pushes (q .slots) (start, now (out .entry)) (r, now (out .exit)) (flatMap (chainsFrom (now (book .entry)) (q .dst)) (flatMap (upsAt (segmentAt (now (book .entry)) k)) (range 0 count))) ⌝ }
+{
+    let mut n = start;
+    let mut i: u8 = 0;
+    while i < count {
+        if q.slots < n {
+            return n;
+        }
+        let found = edges::as_up(book, table, k, i);
+        n = chains_of(book, table, flags, q, found, out, n);
+        n = peer_chains(book, table, flags, q, k, i, out, n);
+        i += 1;
+    }
+    n
+}
+
+// ---- all segments
+
+// The chains that begin with an edge of the segment at k.
+fn chains_in(
+    book: &[u8],
+    table: &[u16; PLACES],
+    flags: &[bool; Limits::SEGMENTS],
+    q: Query,
+    k: u8,
+    src: IsdAsn,
+    out: &mut [u8],
+    n: usize,
+) -> usize
+    requires { ⌜ Prepared (now book) (now table) (now flags) (q .cores) (q .count) ⌝ }
+    requires { ⌜ k < segmentCount (now book) ⌝ }
+    requires { ⌜ Room (q .slots) n (now out) ⌝ }
+    ensures { λ r. ⌜ Pushes (q .slots) (n, now (out .entry)) (r, now (out .exit)) (chainsIn (now (book .entry)) (q .dst) src (segmentAt (now (book .entry)) k)) ⌝ }
+{
+    let count = edges::entry_count(book, k);
+    if count == 0 {
+        return n;
+    }
+    if k < q.cores {
+        let found = edges::core_leaving(book, table, k, Vertex::AS(src));
+        return chains_of(book, table, flags, q, found, out, n);
+    }
+    let leaf = edges::leaf_as(book, table, k);
+    if edges::same_as(leaf, src) {
+        return leaf_chains(book, table, flags, q, k, count as u8, out, n);
+    }
+    let found = edges::between(book, table, k, Vertex::AS(src), leaf);
+    chains_of(book, table, flags, q, found, out, n)
+}
+
+fn all_chains(
+    book: &[u8],
+    table: &[u16; PLACES],
+    flags: &[bool; Limits::SEGMENTS],
+    q: Query,
+    src: IsdAsn,
+    out: &mut [u8],
+) -> usize
+    requires { ⌜ Prepared (now book) (now table) (now flags) (q .cores) (q .count) ⌝ }
+    requires { ⌜ Room (q .slots) 0 (now out) ⌝ }
+    ensures { λ r. ⌜ Pushes (q .slots) (0, now (out .entry)) (r, now (out .exit)) (overFirsts (chainsIn (now (book .entry)) (q .dst) src) (now (book .entry)) 0 (q .count)) ⌝ }
+{
+    let mut n: usize = 0;
+    let mut k: u8 = 0;
+    while k < q.count {
+        if q.slots < n {
+            return n;
+        }
+        if flags[k as usize] {
+            n = chains_in(book, table, flags, q, k, src, out, n);
+        }
+        k += 1;
+    }
+    n
+}
+
+// Which positions hold the first of their equals.
+fn first_flags(book: &[u8], count: u8) -> [bool; Limits::SEGMENTS]
+    requires { ⌜ (count ≡ segmentCount (now book)) × (count ≤ maxSegments) ⌝ }
+    ensures { λ r. ⌜ Flagged (now (book .entry)) r ⌝ }
+{
+    let mut flags = [false; Limits::SEGMENTS];
+    let mut k: u8 = 0;
+    while k < count {
+        flags[k as usize] = segment::is_first(book, k);
+        k += 1;
+    }
+    flags
+}
+
+// Pushes all chains from `src` to `dst` of an accepted book into the slots.
+pub(crate) fn search(
+    book: &[u8],
+    table: &[u16; PLACES],
+    src: IsdAsn,
+    dst: IsdAsn,
+    out: &mut [u8],
+    slots: usize,
+) -> usize
+    requires { ⌜ Ready (now book) (now table) ⌝ }
+    requires { ⌜ Room slots 0 (now out) ⌝ }
+    ensures { λ r. ⌜ Pushes slots (0, now (out .entry)) (r, now (out .exit)) (foundChains (now (book .entry)) dst src) ⌝ }
+{
+    if edges::same_as(src, dst) {
+        return 0;
+    }
+    let sizes = segment::sizes(book);
+    let count = (sizes.cores + sizes.others) as u8;
+    let flags = first_flags(book, count);
+    let q = Query {
+        cores: sizes.cores as u8,
+        count: count,
+        dst: dst,
+        slots: slots,
+    };
+    all_chains(book, table, &flags, q, src, out)
+}

@@ -1,0 +1,134 @@
+// The records of solutions, and the slots of a lent buffer, which are filled from the front. The count
+// stops at one past the slots there are.
+ghost use mathlib.Core.Path.{_≡_};
+ghost use mathlib.Core.List.{[], _∷_};
+ghost use Prim.Native.Nat.{_*_, _≤_};
+ghost use lib.ListN.{length};
+ghost use Rattle.spec.specs.Limits.{solutionSize};
+ghost use Rattle.spec.specs.Order.{solutionEdge};
+ghost use Rattle.spec.specs.Records.{bit, noEdge, solutionOf};
+ghost use Rattle.graph.specs.Pushed.{recordOctets, pushRecord, Room, Pushes};
+use spec::Edge;
+use spec::Solution;
+use spec::SolutionEdge;
+
+fn bit(b: bool) -> u8
+    ensures { λ r. ⌜ r ≡ bit b ⌝ }
+{
+    if b { 1 } else { 0 }
+}
+
+fn weight(e: Edge) -> u16
+    ensures { λ r. ⌜ (r ≡ e .weight) × (r ≤ 255) ⌝ }
+{
+    e.weight as u16
+}
+
+fn edge(e: Edge) -> SolutionEdge
+    ensures { λ r. ⌜ r ≡ solutionEdge e ⌝ }
+{
+    SolutionEdge {
+        position: e.position,
+        shortcut: e.shortcut,
+        peer: e.peer,
+        construction: e.construction,
+    }
+}
+
+fn no_edge() -> SolutionEdge
+    ensures { λ r. ⌜ r ≡ noEdge ⌝ }
+{
+    SolutionEdge {
+        position: 0,
+        shortcut: 0,
+        peer: 0,
+        construction: false,
+    }
+}
+
+// ---- the record of a chain
+
+fn one(e: Edge) -> Solution
+    ensures { λ r. ⌜ r ≡ solutionOf (e ∷ []) ⌝ }
+{
+    Solution::new(weight(e), 1, [edge(e), no_edge(), no_edge()])
+}
+
+fn two(e: Edge, f: Edge) -> Solution
+    ensures { λ r. ⌜ r ≡ solutionOf (e ∷ f ∷ []) ⌝ }
+{
+    Solution::new(weight(e) + weight(f), 2, [edge(e), edge(f), no_edge()])
+}
+
+fn three(e: Edge, f: Edge, g: Edge) -> Solution
+    ensures { λ r. ⌜ r ≡ solutionOf (e ∷ f ∷ g ∷ []) ⌝ }
+{
+    Solution::new(
+        weight(e) + weight(f) + weight(g),
+        3,
+        [edge(e), edge(f), edge(g)],
+    )
+}
+
+fn octets_of(s: Solution) -> [u8; Solution::SIZE]
+    ensures { λ r. ⌜ r ≡ recordOctets s ⌝ }
+{
+    let cost = s.cost;
+    let e = s.edges[0];
+    let f = s.edges[1];
+    let g = s.edges[2];
+    [
+        (cost / 256) as u8,
+        (cost % 256) as u8,
+        s.count,
+        0,
+        e.position,
+        e.shortcut,
+        e.peer,
+        bit(e.construction),
+        f.position,
+        f.shortcut,
+        f.peer,
+        bit(f.construction),
+        g.position,
+        g.shortcut,
+        g.peer,
+        bit(g.construction),
+    ]
+}
+
+// ---- the slots
+
+// Writes a record at slot n, if there is one; the count after it.
+fn push(out: &mut [u8], slots: usize, n: usize, s: Solution) -> usize
+    requires { ⌜ solutionSize * slots ≤ length (now out) ⌝ }
+    ensures { λ r. ⌜ (r, now (out .exit)) ≡ pushRecord slots (n, now (out .entry)) (recordOctets s) ⌝ }
+{
+    if n < slots {
+        let r = octets_of(s);
+        octets::copy(&r, 0, Solution::SIZE, out, Solution::SIZE * n);
+        return n + 1;
+    }
+    slots + 1
+}
+
+pub(crate) fn push_one(out: &mut [u8], slots: usize, n: usize, e: Edge) -> usize
+    requires { ⌜ Room slots n (now out) ⌝ }
+    ensures { λ r. ⌜ Pushes slots (n, now (out .entry)) (r, now (out .exit)) ((e ∷ []) ∷ []) ⌝ }
+{
+    push(out, slots, n, one(e))
+}
+
+pub(crate) fn push_two(out: &mut [u8], slots: usize, n: usize, e: Edge, f: Edge) -> usize
+    requires { ⌜ Room slots n (now out) ⌝ }
+    ensures { λ r. ⌜ Pushes slots (n, now (out .entry)) (r, now (out .exit)) ((e ∷ f ∷ []) ∷ []) ⌝ }
+{
+    push(out, slots, n, two(e, f))
+}
+
+pub(crate) fn push_three(out: &mut [u8], slots: usize, n: usize, e: Edge, f: Edge, g: Edge) -> usize
+    requires { ⌜ Room slots n (now out) ⌝ }
+    ensures { λ r. ⌜ Pushes slots (n, now (out .entry)) (r, now (out .exit)) ((e ∷ f ∷ g ∷ []) ∷ []) ⌝ }
+{
+    push(out, slots, n, three(e, f, g))
+}

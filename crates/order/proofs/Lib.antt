@@ -1,0 +1,11 @@
+-- Laws that belong to no one function.
+pub mod Sorting
+pub mod Bytes
+pub mod Slots
+pub mod Merging
+pub mod Ordered
+pub mod Comparing
+pub mod Words
+pub mod Keys
+pub mod Caching
+pub mod Chains

@@ -1,0 +1,5 @@
+-- What the contracts of `order` cite.
+pub mod Sort
+pub mod Records
+pub mod Order
+pub mod Cache

@@ -1,0 +1,129 @@
+-- How a table of cases is written: books field by field, questions, their answers by the definitions, and the test of a whole table.
+-- Assumes nothing.
+use Prim.Native.Nat.{ℕ, _-_, _*_}
+use mathlib.Core.Bool.{Bool, true, _&&_}
+use mathlib.Core.List.{List, [], _∷_, _++_, flatMap}
+use lib.ListN.{length, replicate}
+use Rattle.spec.specs.declared.IsdAsn.{IsdAsn}
+use Rattle.spec.specs.Basics.{sameList}
+use Rattle.spec.specs.Octets.{octets2, octets4, octets8}
+use Rattle.spec.specs.Book.{verdict}
+use Rattle.spec.specs.Assembly.{life}
+use Rattle.spec.specs.Records.{slots}
+use Rattle.spec.specs.Router.{routerIds}
+use Rattle.spec.specs.Answers.{Listed, Assembled, listing, assembly, verdictNumber, listNumber, pathNumber}
+use Rattle.spec.specs.Printed.{printed}
+
+-- ---- books
+
+-- AS, AS MTU, ingress MTU, ingress, egress, units, MAC, peers
+abbrev pub entry : ℕ → ℕ → ℕ → ℕ → ℕ → ℕ → List ℕ → List (List ℕ) → List ℕ
+entry local mtu ingressMtu ingress egress units mac peers =
+    octets8 local ++ octets4 mtu ++ octets2 ingressMtu ++ octets2 ingress ++ octets2 egress
+    ++ (units ∷ []) ++ mac ++ (length peers ∷ []) ++ flatMap (λ p. p) peers
+
+-- peer AS, peer interface, peer MTU, units, ingress, egress, MAC
+abbrev pub peer : ℕ → ℕ → ℕ → ℕ → ℕ → ℕ → List ℕ → List ℕ
+peer local interface mtu units ingress egress mac =
+    octets8 local ++ octets2 interface ++ octets2 mtu ++ (units ∷ []) ++ octets2 ingress ++ octets2 egress ++ mac
+
+-- a segment: timestamp, id, entries
+pub record Draft : Type 0 where
+  pub timestamp : ℕ
+  pub id : ℕ
+  pub entries : List (List ℕ)
+
+abbrev pub segment : ℕ → ℕ → List (List ℕ) → Draft
+segment timestamp id entries = record { timestamp = timestamp; id = id; entries = entries }
+
+abbrev pub body : Draft → List ℕ
+body s = flatMap (λ x. x) (s .entries)
+
+abbrev pub head : Draft → List ℕ
+head s = octets4 (s .timestamp) ++ octets2 (s .id) ++ octets2 (length (s .entries)) ++ octets2 (length (body s))
+
+-- of core and non-core segments
+abbrev pub book : List Draft → List Draft → List ℕ
+book cores others =
+    let bodies : List ℕ = flatMap body (cores ++ others) in
+    octets2 (length cores) ++ octets2 (length others) ++ octets4 (length bodies) ++ flatMap head (cores ++ others) ++ bodies
+
+-- ---- solution records: position, shortcut, peer index plus 1 or 0, direction for each edge
+
+abbrev pub edge : ℕ → ℕ → ℕ → ℕ → List ℕ
+edge position shortcut peer direction = position ∷ shortcut ∷ peer ∷ direction ∷ []
+
+-- of a cost below 256
+abbrev pub solution : ℕ → List (List ℕ) → List ℕ
+solution cost edges = 0 ∷ cost ∷ length edges ∷ 0 ∷ (flatMap (λ e. e) edges ++ replicate (12 - 4 * length edges) 0)
+
+-- ---- the questions
+
+pub data Question : Type 0 where
+  -- is the book accepted?
+  accept : List ℕ → Question
+  -- the list from a source to a destination, in so many bytes
+  list : List ℕ → ℕ → ℕ → ℕ → Question
+  -- what is printed for an input
+  print : List ℕ → Question
+  -- the path of a record, in so many bytes
+  assemble : List ℕ → ℕ → ℕ → List ℕ → ℕ → Question
+  -- the ids that a router holds at the hops of that path
+  hold : List ℕ → ℕ → ℕ → List ℕ → Question
+  -- how many solutions fit in so many bytes?
+  room : ℕ → Question
+  -- how long does a hop of so many units live?
+  live : ℕ → Question
+
+abbrev pub isdAsn : ℕ → IsdAsn
+isdAsn n = record { 0 = n }
+
+-- the program's input
+abbrev pub input : List ℕ → ℕ → ℕ → List ℕ
+input b src dst = octets8 src ++ octets8 dst ++ b
+
+unfoldable pub answer : (List ℕ → List ℕ) → Question → List ℕ
+answer digest (accept b) = verdictNumber (verdict b) ∷ []
+answer digest (list b src dst bytes) =
+    let l : Listed = listing digest b (isdAsn src) (isdAsn dst) bytes in
+    listNumber (l .0) ∷ l .1
+answer digest (print i) = printed digest i
+answer digest (assemble b src dst given bytes) =
+    let a : Assembled = assembly b (isdAsn src) (isdAsn dst) given bytes in
+    pathNumber (a .0) ∷ a .1
+answer digest (hold b src dst given) = routerIds (assembly b (isdAsn src) (isdAsn dst) given 1538 .1)
+answer digest (room bytes) = slots bytes ∷ []
+answer digest (live units) = life units ∷ []
+
+-- ---- tables
+
+pub record Case : Type 0 where
+  pub question : Question
+  pub expected : List ℕ
+
+abbrev pub case : Question → List ℕ → Case
+case q a = record { question = q; expected = a }
+
+unfoldable pub right : (List ℕ → List ℕ) → Case → Bool
+right digest c = sameList (answer digest (c .question)) (c .expected)
+
+unfoldable pub every : (Case → Bool) → List Case → Bool
+every p [] = true
+every p (c ∷ cs) = p c && every p cs
+
+-- ---- ASes and MACs
+
+abbrev pub a110 : ℕ
+a110 = 0x0001_ff00_0000_0110
+
+abbrev pub a111 : ℕ
+a111 = 0x0001_ff00_0000_0111
+
+abbrev pub a112 : ℕ
+a112 = 0x0001_ff00_0000_0112
+
+abbrev pub mac0 : List ℕ
+mac0 = 1 ∷ 2 ∷ 3 ∷ 4 ∷ 5 ∷ 6 ∷ []
+
+abbrev pub mac1 : List ℕ
+mac1 = 10 ∷ 11 ∷ 12 ∷ 13 ∷ 14 ∷ 15 ∷ []

@@ -1,0 +1,43 @@
+-- What the two tables say: each question has the answer that stands beside it.
+-- Assumes nothing.
+use mathlib.Core.Path.{_≡_, ap, _∙_}
+use mathlib.Core.Logic.{⊎-elim}
+use mathlib.Core.Bool.{Bool, true, _&&_}
+use mathlib.Core.List.{List, [], _∷_, List·Memᴰ as Mem, List·Memᴰ·not-nil as not-nil, List·Memᴰ·cases-cons as cases-cons}
+use Prim.Native.Nat.{ℕ}
+use lib.Dec.{T}
+use Rattle.sha256.specs.Message.{sha256}
+use Rattle.spec.proofs.Membership.{T-true, true-T, and-true}
+use Rattle.spec.proofs.AnswerLaws.{sameList-eq}
+use Rattle.spec.proofs.CasesForm.{Case, answer, right, every}
+use Rattle.spec.proofs.Cases
+use Rattle.spec.proofs.AddedCases
+
+every-mem : (p : Case → Bool) (cs : List Case) → T (every p cs) → (c : Case) → Mem c cs → p c ≡ true
+unfolding every
+every-mem p [] t c m = absurd (not-nil m)
+every-mem p (d ∷ ds) t c m =
+    let h = and-true (p d) (every p ds) (T-true (p d && every p ds) t) in
+    ⊎-elim (λ q. ap p q ∙ h .0) (λ k. every-mem p ds (true-T (every p ds) (h .1)) c k) (cases-cons m)
+
+pub answered : (digest : List ℕ → List ℕ) (cs : List Case) → T (every (right digest) cs) → (c : Case) → Mem c cs → answer digest (c .question) ≡ c .expected
+unfolding right
+answered digest cs t c m =
+    sameList-eq (answer digest (c .question)) (c .expected) (every-mem (right digest) cs t c m)
+
+-- document 01's P cases, for every digest
+pub p-answer : (digest : List ℕ → List ℕ) (c : Case) → Mem c Cases.table → answer digest (c .question) ≡ c .expected
+p-answer digest = answered digest Cases.table (Cases.all-right digest)
+
+-- the second table, and its cases with SHA-256
+both : T (every (right AddedCases.unhashed) AddedCases.table) × T (every (right sha256) AddedCases.hashed)
+both =
+    let h = and-true (every (right AddedCases.unhashed) AddedCases.table) (every (right sha256) AddedCases.hashed)
+    (T-true (every (right AddedCases.unhashed) AddedCases.table && every (right sha256) AddedCases.hashed) AddedCases.all-right) in
+    (true-T (every (right AddedCases.unhashed) AddedCases.table) (h .0), true-T (every (right sha256) AddedCases.hashed) (h .1))
+
+pub added-answer : (c : Case) → Mem c AddedCases.table → answer AddedCases.unhashed (c .question) ≡ c .expected
+added-answer = answered AddedCases.unhashed AddedCases.table (both .0)
+
+pub hashed-answer : (c : Case) → Mem c AddedCases.hashed → answer sha256 (c .question) ≡ c .expected
+hashed-answer = answered sha256 AddedCases.hashed (both .1)
