@@ -48,7 +48,7 @@ unfolding entryAt
 peers-read b k i h = ap (λ (x : Entry). length (x .peers)) (entry-at b k i h) ∙ simp (length-map, length-range)
 
 module _ {A : Type 0} (f : ℕ → A) where
-  map-range-at : (j n i : ℕ) (d : A) → i < n → getD (map f (range j n)) i d ≡ f (j + i)
+  pub map-range-at : (j n i : ℕ) (d : A) → i < n → getD (map f (range j n)) i d ≡ f (j + i)
   unfolding range
   map-range-at j zero i d h = absurd (omega arith)
   map-range-at j (suc n) zero d h = ap f (sym (add-zero j))

@@ -72,7 +72,7 @@ cost-most b (e ∷ c) h = omega (arith, suc-mul (length c) maxEntries, h e (head
 
 -- lists of at most so many elements each, and of just so many
 module _ {A B : Type 0} (f : A → List B) (size : ℕ) where
-  flat-most : (xs : List A) → ((x : A) → Mem x xs → length (f x) ≤ size) → length (flatMap f xs) ≤ length xs * size
+  pub flat-most : (xs : List A) → ((x : A) → Mem x xs → length (f x) ≤ size) → length (flatMap f xs) ≤ length xs * size
   unfolding flatMap
   flat-most [] h = zero-le
   flat-most (x ∷ xs) h =
@@ -96,7 +96,7 @@ two-interfaces seg e i = both _ _ _ _ _
     both : (s t : Bool) (a : IsdAsn) (x y : ℕ) → length (interfaceIf s a x ++ interfaceIf t a y) ≤ 2
     both s t a x y = omega (arith, length-append (interfaceIf s a x) (interfaceIf t a y), at-most-one s a x, at-most-one t a y)
 
-interfaces-most : (seg : Segment) (e : Edge) → length (interfacesOf seg e) ≤ hopCount seg e * 2
+pub interfaces-most : (seg : Segment) (e : Edge) → length (interfacesOf seg e) ≤ hopCount seg e * 2
 unfolding interfacesOf
 interfaces-most seg e =
     omega (

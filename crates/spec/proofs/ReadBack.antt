@@ -88,11 +88,11 @@ interface-of [] good k = omega arith
 interface-of (i ∷ is) good zero = good i (head refl) .local
 interface-of (i ∷ is) good (suc k) = interface-of is (λ j m. good j (tail m)) k
 
-as-back : (a : IsdAsn) → a .0 < 2 ^ 64 → (rest : List ℕ) → isdAsnAt (asOctets a ++ rest) 0 ≡ a
+pub as-back : (a : IsdAsn) → a .0 < 2 ^ 64 → (rest : List ℕ) → isdAsnAt (asOctets a ++ rest) 0 ≡ a
 unfolding isdAsnAt asOctets
 as-back a h rest = λ k. record { 0 = octets8-back (a .0) rest h k }
 
-as-length : (a : IsdAsn) → a .0 < 2 ^ 64 → length (asOctets a) ≡ 8
+pub as-length : (a : IsdAsn) → a .0 < 2 ^ 64 → length (asOctets a) ≡ 8
 unfolding asOctets octets8 octets4 octets2
 as-length a h = refl
 
@@ -116,12 +116,12 @@ both-read f g (k ∷ ks) (i ∷ is) p q =
     ap₂ {B = List PathInterface} (λ (a : PathInterface) l. a ∷ l) (λ t. record { local = head-eq-of-cons-eq p t; id = head-eq-of-cons-eq q t })
     (both-read f g ks is (tail-eq-of-cons-eq p) (tail-eq-of-cons-eq q))
 
-flat-map : {A B : Type 0} (f : A → B) (g : B → List ℕ) (xs : List A) → flatMap g (map f xs) ≡ flatMap (λ x. g (f x)) xs
+pub flat-map : {A B : Type 0} (f : A → B) (g : B → List ℕ) (xs : List A) → flatMap g (map f xs) ≡ flatMap (λ x. g (f x)) xs
 unfolding flatMap
 flat-map f g [] = refl
 flat-map f g (x ∷ xs) = ap (λ l. g (f x) ++ l) (flat-map f g xs)
 
-ases-flat : (is : List PathInterface) → flatMap interfaceAsOctets is ≡ flatMap asOctets (map localOf is)
+pub ases-flat : (is : List PathInterface) → flatMap interfaceAsOctets is ≡ flatMap asOctets (map localOf is)
 unfolding interfaceAsOctets
 ases-flat is = sym (flat-map localOf asOctets is)
 

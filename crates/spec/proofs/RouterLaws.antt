@@ -171,7 +171,7 @@ module _ (seg : Segment) (e : Edge) where
   -- ---- an info and its hops
 
   -- the entries of the hops are those that the edge uses, in its direction
-  entries-used : e .construction ≡ isAlong seg e → hopEntries seg e ≡ inDirection (e .construction) (usedEntries seg e)
+  pub entries-used : e .construction ≡ isAlong seg e → hopEntries seg e ≡ inDirection (e .construction) (usedEntries seg e)
   unfolding hopEntries hopEntry inDirection usedEntries
   entries-used dir = go (isAlong seg e) ∙ ap (λ t. inDirection t (usedEntries seg e)) (sym dir)
     where

@@ -1,0 +1,68 @@
+-- Bytes copied from the book into a path.
+-- Assumes nothing.
+use Prim.Native.Nat.{ℕ, suc, _+_, _≤_, _<_, _^_}
+use native.Mathlib.Nat.{add-assoc}
+use native.Mathlib.Numerals.{add-one}
+use native.Mathlib.Omega.{arith}
+use mathlib.Core.Path.{_≡_, refl, sym, ap, ap₂, _∙_}
+use mathlib.Core.List.{List, [], _∷_, _++_}
+use lib.ListN.{length, getD, take, drop}
+use lib.Seq.{drop-cons, drop-drop, take-add}
+use Rattle.spec.specs.Limits.{entrySize, peerSize}
+use Rattle.spec.specs.Octets.{Bytes, be16, octets2}
+use Rattle.spec.specs.Book.{macAt, asEntryAt, peerEntryAt}
+use Rattle.spec.specs.Records.{hopOctets}
+use Rattle.octets.specs.Write.{written}
+use Rattle.octets.proofs.Writing.{written-pair, octets2-length}
+
+module _ (b : List ℕ) where
+  next : (n i : ℕ) → i < length b → take (suc n) (drop i b) ≡ getD b i 0 ∷ take n (drop (i + 1) b)
+  next n i h = rw (add-one, drop-cons b i 0 h)
+
+  split : (n m i : ℕ) → take (n + m) (drop i b) ≡ take n (drop i b) ++ take m (drop (i + n) b)
+  split n m i = take-add n m (drop i b) ∙ ap (λ l. take n (drop i b) ++ take m l) (drop-drop n i b)
+
+  two : (i : ℕ) → i + 2 ≤ length b → take 2 (drop i b) ≡ getD b i 0 ∷ getD b (i + 1) 0 ∷ []
+  two i h = next 1 i (omega arith) ∙ ap (λ l. getD b i 0 ∷ l) (next 0 (i + 1) (omega arith))
+
+  pub six : (i : ℕ) → i + 6 ≤ length b → take 6 (drop i b) ≡ macAt b i
+  unfolding macAt
+  six i h =
+      split 2 4 i
+      ∙ ap₂ (λ x y. x ++ y) (two i (omega arith)) (split 2 2 (i + 2) ∙ ap₂ (λ x y. x ++ y) (two (i + 2) (omega arith)) (two (i + 2 + 2) (omega arith)))
+      ∙ simp add-assoc
+
+module _ (b : List ℕ) (bytes : Bytes b) where
+  pair : (i : ℕ) → i + 2 ≤ length b → take 2 (drop i b) ≡ octets2 (be16 b i)
+  unfolding octets2 be16
+  pair i h =
+      two b i h
+      ∙ ap₂ (λ x y. x ∷ y ∷ []) (omega (arith, bytes i, bytes (i + 1))) (omega (arith, bytes i, bytes (i + 1)))
+
+  four : (i : ℕ) → i + 4 ≤ length b → take 4 (drop i b) ≡ octets2 (be16 b i) ++ octets2 (be16 b (i + 2))
+  four i h = split b 2 2 i ∙ ap₂ (λ x y. x ++ y) (pair i (omega arith)) (pair (i + 2) (omega arith))
+
+  -- of a peer the bytes of a hop stand in one piece
+  pub link-copied : (q : ℕ) → q + peerSize ≤ length b → take 11 (drop (q + 12) b) ≡ hopOctets (peerEntryAt b q .hop)
+  unfolding hopOctets peerEntryAt octets2
+  link-copied q h =
+      next b 10 (q + 12) (omega arith)
+      ∙ ap (λ l. getD b (q + 12) 0 ∷ l)
+      (split b 4 6 (q + 12 + 1)
+      ∙ ap₂ (λ x y. x ++ y) (four (q + 12 + 1) (omega arith)) (six b (q + 12 + 1 + 4) (omega arith))
+      ∙ simp add-assoc)
+
+  -- of an entry in three
+  pub own-copied : (d : List ℕ) (to at : ℕ) → at + entrySize ≤ length b
+      → written (written (written d to (getD b (at + 18) 0 ∷ [])) (to + 1) (take 4 (drop (at + 14) b))) (to + 5) (take 6 (drop (at + 19) b))
+      ≡ written d to (hopOctets (asEntryAt b at .hop))
+  own-copied d to at h =
+      let u : ℕ = getD b (at + 18) 0 in
+      let ids : List ℕ = octets2 (be16 b (at + 14)) ++ octets2 (be16 b (at + 14 + 2)) in
+      ap₂ (λ x y. written (written (written d to (u ∷ [])) (to + 1) x) (to + 5) y) (four (at + 14) (omega arith)) (six b (at + 19) (omega arith))
+      ∙ ap (λ l. written l (to + 5) (macAt b (at + 19))) (written-pair d to 1 (u ∷ []) ids refl)
+      ∙ written-pair d to 5 ((u ∷ []) ++ ids) (macAt b (at + 19)) (unfold octets2 in refl)
+      ∙ ap (written d to) octets
+    where
+      octets : ((getD b (at + 18) 0 ∷ []) ++ (octets2 (be16 b (at + 14)) ++ octets2 (be16 b (at + 14 + 2)))) ++ macAt b (at + 19) ≡ hopOctets (asEntryAt b at .hop)
+      octets = unfold hopOctets asEntryAt octets2 in (simp add-assoc)

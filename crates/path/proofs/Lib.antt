@@ -1,0 +1,9 @@
+-- Laws that belong to no one function.
+pub mod Copies
+pub mod Standing
+pub mod Writes
+pub mod Showing
+pub mod Walking
+pub mod Chaining
+pub mod Repeats
+pub mod Assembling

@@ -1,0 +1,224 @@
+-- The interfaces and MTUs of one entry.
+-- Assumes nothing.
+use Prim.Native.Nat.{ℕ, _+_, _-_, _%_, _^_, _<_, min}
+use native.Mathlib.Omega.{arith}
+use mathlib.Core.Path.{_≡_, refl, sym, ap, ap₂, _∙_}
+use mathlib.Core.Bool.{Bool, true, false, _&&_, _||_, not}
+use mathlib.Core.List.{List, [], _∷_, _++_, flatMap, reverse, reverse-append, append-nil}
+use lib.ListN.{length, getD, take, drop}
+use lib.Dec.{eqb, ltb}
+use borrow.Author.Tests.{eqb-true, eqb-false, lt-ltb, eq-eqb, ne-eqb}
+use Rattle.spec.specs.declared.IsdAsn.{IsdAsn}
+use Rattle.spec.specs.declared.Edge.{Edge}
+use Rattle.spec.specs.Basics.{if_then_else_}
+use Rattle.spec.specs.Limits.{hopSize}
+use Rattle.spec.specs.Octets.{Bytes, octets2, octets8}
+use Rattle.spec.specs.Book.{Segment, asEntryAt, segmentAt}
+use Rattle.spec.specs.Edges.{entryOf, asOf, peerOf}
+use Rattle.spec.specs.Assembly.{least, isPeerEdge, atShortcut, isPeerHop, interfaceIf, mtusAt, interfacesAt, inDirection, hopOf, segmentOf}
+use Rattle.spec.specs.Records.{hopOctets, asOctets, interfaceAsOctets, interfaceIdOctets}
+use Rattle.spec.proofs.Lists.{flatMap-append}
+use Rattle.spec.proofs.ByteLaws.{hop-length}
+use Rattle.spec.proofs.BookLaws.{hop-good}
+use Rattle.octets.specs.Write.{written}
+use Rattle.octets.proofs.Writing.{octets2-length, octets8-length}
+use Rattle.path.specs.declared.Part.the-variants.{Hops, Ases, Ids}
+use Rattle.path.specs.Places.{isLeft, linkOffset, Here, Wrote}
+use Rattle.path.specs.Parts.{linkMtus, ingressShown, shownAs, asIf, idIf, interfacesHere, entryBytes}
+use Rattle.path.proofs.Copies.{link-copied}
+use Rattle.path.proofs.Standing.{link-hop, own-hop}
+use Rattle.path.proofs.Writes.{wrote-none, wrote-one, wrote-join, wrote-as}
+
+and-true : (t : Bool) → (t && true) ≡ t
+and-true true = refl
+and-true false = refl
+
+and-false : (t : Bool) → (t && false) ≡ false
+and-false true = refl
+and-false false = refl
+
+positive : (n : ℕ) → ltb 0 n ≡ not (eqb n 0)
+positive n = go (eqb n 0) refl
+  where
+    go : (t : Bool) → eqb n 0 ≡ t → ltb 0 n ≡ not t
+    go true q = rw (eqb-true n 0 q)
+    go false q = let f = eqb-false n 0 q in lt-ltb 0 n (omega arith)
+
+-- ---- interfaces
+
+ingress-shown : (e : Edge) (m : ℕ) (a : IsdAsn) (i : ℕ)
+    → interfaceIf (not (eqb i 0) && (not (atShortcut e m) || eqb (e .shortcut) 0 || isPeerHop e m)) a i ≡ shownAs a (ingressShown e m i)
+unfolding isPeerHop isPeerEdge ingressShown isLeft
+ingress-shown e m a i = rw (positive (e .peer), positive (e .shortcut)) (go (atShortcut e m) (eqb (e .shortcut) 0) (eqb (e .peer) 0))
+  where
+    go : (s z p : Bool) → interfaceIf (not (eqb i 0) && (not s || z || (s && not p))) a i ≡ shownAs a (if p && (s && not z) then 0 else i)
+    go false z true = unfold shownAs in ap (λ t. interfaceIf t a i) (and-true (not (eqb i 0)))
+    go false z false = unfold shownAs in ap (λ t. interfaceIf t a i) (and-true (not (eqb i 0)))
+    go true true true = unfold shownAs in ap (λ t. interfaceIf t a i) (and-true (not (eqb i 0)))
+    go true true false = unfold shownAs in ap (λ t. interfaceIf t a i) (and-true (not (eqb i 0)))
+    go true false true = unfold shownAs in (ap (λ t. interfaceIf t a i) (and-false (not (eqb i 0))) ∙ (unfold interfaceIf in refl))
+    go true false false = unfold shownAs in ap (λ t. interfaceIf t a i) (and-true (not (eqb i 0)))
+
+module _ (e : Edge) (m i : ℕ) where
+  pub hidden : e .peer ≡ 0 → isLeft e m ≡ true → 0 ≡ ingressShown e m i
+  unfolding ingressShown
+  hidden p q = sym (ap₂ (λ s t. if s && t then 0 else i) (eq-eqb (e .peer) 0 p) q)
+
+  pub inner : e .peer ≡ 0 → isLeft e m ≡ false → i ≡ ingressShown e m i
+  unfolding ingressShown
+  inner p q = sym (ap₂ (λ s t. if s && t then 0 else i) (eq-eqb (e .peer) 0 p) q)
+
+  pub linked : (e .peer ≡ 0 → ⊥) → i ≡ ingressShown e m i
+  unfolding ingressShown
+  linked f = sym (ap (λ s. if s && isLeft e m then 0 else i) (ne-eqb (e .peer) 0 f))
+
+-- a list of one or none is its own reverse
+reverse-if : (t : Bool) (a : IsdAsn) (i : ℕ) → reverse (interfaceIf t a i) ≡ interfaceIf t a i
+unfolding interfaceIf
+reverse-if true a i = refl
+reverse-if false a i = refl
+
+module _ (b : List ℕ) (e : Edge) (m : ℕ) where
+  abbrev seg : Segment
+  seg = segmentOf b e
+
+  abbrev local : IsdAsn
+  local = asOf (segmentOf b e) m
+
+  interfaces-shown : (ingress egress : ℕ) → ingress ≡ ingressShown e m (hopOf seg e m .ingress) → egress ≡ hopOf seg e m .egress
+      → interfacesAt seg e m ≡ shownAs local egress ++ shownAs local ingress
+  unfolding interfacesAt
+  interfaces-shown ingress egress p q =
+      ap₂ (λ x y. x ++ y) (shown-egress ∙ ap (shownAs local) (sym q)) (ingress-shown e m local (hopOf seg e m .ingress) ∙ ap (shownAs local) (sym p))
+    where
+      shown-egress : interfaceIf (not (eqb (hopOf seg e m .egress) 0)) local (hopOf seg e m .egress) ≡ shownAs local (hopOf seg e m .egress)
+      shown-egress = unfold shownAs in refl
+
+  pub shown-against : (ingress egress : ℕ) → ingress ≡ ingressShown e m (hopOf seg e m .ingress) → egress ≡ hopOf seg e m .egress → e .construction ≡ false
+      → interfacesHere b e m ≡ shownAs (asOf (segmentOf b e) m) egress ++ shownAs (asOf (segmentOf b e) m) ingress
+  unfolding interfacesHere inDirection
+  shown-against ingress egress p q d = ap (λ (t : Bool). inDirection t (interfacesAt seg e m)) d ∙ interfaces-shown ingress egress p q
+
+  pub shown-along : (ingress egress : ℕ) → ingress ≡ ingressShown e m (hopOf seg e m .ingress) → egress ≡ hopOf seg e m .egress → e .construction ≡ true
+      → interfacesHere b e m ≡ shownAs (asOf (segmentOf b e) m) ingress ++ shownAs (asOf (segmentOf b e) m) egress
+  unfolding interfacesHere inDirection
+  shown-along ingress egress p q d =
+      ap (λ (t : Bool). inDirection t (interfacesAt seg e m)) d
+      ∙ ap reverse (interfaces-shown ingress egress p q)
+      ∙ reverse-append (shownAs local egress) (shownAs local ingress)
+      ∙ ap₂ (λ x y. x ++ y) (once ingress) (once egress)
+    where
+      once : (i : ℕ) → reverse (shownAs local i) ≡ shownAs local i
+      once i = unfold shownAs in reverse-if (not (eqb i 0)) local i
+
+-- their bytes
+as-if : (a : IsdAsn) (i : ℕ) → flatMap interfaceAsOctets (shownAs a i) ≡ asIf a i
+unfolding shownAs interfaceIf asIf interfaceAsOctets flatMap
+as-if a i = go (eqb i 0)
+  where
+    go : (t : Bool) → flatMap interfaceAsOctets (if not t then record { local = a; id = i } ∷ [] else []) ≡ (if t then [] else asOctets a)
+    go true = refl
+    go false = append-nil (asOctets a)
+
+id-if : (a : IsdAsn) (i : ℕ) → flatMap interfaceIdOctets (shownAs a i) ≡ idIf i
+unfolding shownAs interfaceIf idIf interfaceIdOctets flatMap
+id-if a i = go (eqb i 0)
+  where
+    go : (t : Bool) → flatMap interfaceIdOctets (if not t then record { local = a; id = i } ∷ [] else []) ≡ (if t then [] else octets2 i)
+    go true = refl
+    go false = append-nil (octets2 i)
+
+module _ (b : List ℕ) (e : Edge) (m : ℕ) (a : IsdAsn) (x y : ℕ) (q : interfacesHere b e m ≡ shownAs a x ++ shownAs a y) where
+  ases-shown : asIf a x ++ asIf a y ≡ entryBytes b e Ases m
+  unfolding entryBytes
+  ases-shown =
+      sym (ap (flatMap interfaceAsOctets) q ∙ flatMap-append interfaceAsOctets (shownAs a x) (shownAs a y) ∙ ap₂ (λ u v. u ++ v) (as-if a x) (as-if a y))
+
+  ids-shown : idIf x ++ idIf y ≡ entryBytes b e Ids m
+  unfolding entryBytes
+  ids-shown =
+      sym (ap (flatMap interfaceIdOctets) q ∙ flatMap-append interfaceIdOctets (shownAs a x) (shownAs a y) ∙ ap₂ (λ u v. u ++ v) (id-if a x) (id-if a y))
+
+  -- two writes make an entry's part
+  pub ases-wrote : {d : List ℕ} {at : ℕ} {d′ : List ℕ} {r : ℕ} {d″ : List ℕ} {s : ℕ} → Wrote d at (asIf a x) d′ r → Wrote d′ r (asIf a y) d″ s
+      → Wrote d at (entryBytes b e Ases m) d″ s
+  ases-wrote v w = wrote-as ases-shown (wrote-join v w)
+
+  pub ids-wrote : {d : List ℕ} {at : ℕ} {d′ : List ℕ} {r : ℕ} {d″ : List ℕ} {s : ℕ} → Wrote d at (idIf x) d′ r → Wrote d′ r (idIf y) d″ s
+      → Wrote d at (entryBytes b e Ids m) d″ s
+  ids-wrote v w = wrote-as ids-shown (wrote-join v w)
+
+-- what is written of one interface
+pub as-none : (d : List ℕ) (at : ℕ) (a : IsdAsn) (i : ℕ) → i ≡ 0 → Wrote d at (asIf a i) d at
+unfolding asIf
+as-none d at a i q = rw (eq-eqb i 0 q) (wrote-none d at)
+
+pub as-some : (d : List ℕ) (at : ℕ) (a : IsdAsn) (i : ℕ) (d′ : List ℕ) → (i ≡ 0 → ⊥) → d′ ≡ written d at (octets8 (a .0)) → Wrote d at (asIf a i) d′ (at + 8)
+unfolding asIf asOctets
+as-some d at a i d′ f q = rw (ne-eqb i 0 f) (wrote-one d at (octets8 (a .0)) d′ 8 (at + 8) q (octets8-length (a .0)) refl)
+
+pub id-none : (d : List ℕ) (at i : ℕ) → i ≡ 0 → Wrote d at (idIf i) d at
+unfolding idIf
+id-none d at i q = rw (eq-eqb i 0 q) (wrote-none d at)
+
+pub id-some : (d : List ℕ) (at i : ℕ) (d′ : List ℕ) → (i ≡ 0 → ⊥) → d′ ≡ written d at (octets2 i) → Wrote d at (idIf i) d′ (at + 2)
+unfolding idIf
+id-some d at i d′ f q = rw (ne-eqb i 0 f) (wrote-one d at (octets2 i) d′ 2 (at + 2) q (octets2-length i) refl)
+
+-- ---- MTUs
+
+pub least-append : (x : ℕ) (xs ys : List ℕ) → least x (xs ++ ys) ≡ least (least x xs) ys
+unfolding least
+least-append x [] ys = refl
+least-append x (z ∷ xs) ys = least-append (min x z) xs ys
+
+pub least-one : (x y : ℕ) → least x (y ∷ []) ≡ min x y
+unfolding least
+least-one x y = refl
+
+module _ (seg : Segment) (e : Edge) (m x : ℕ) where
+  abbrev ingressMtu : ℕ
+  ingressMtu = entryOf seg m .own .«ingress_mtu»
+
+  pub link-peer : isPeerHop e m ≡ true → min x (peerOf seg m (e .peer - 1) .mtu) ≡ least x (linkMtus seg e m)
+  unfolding linkMtus least
+  link-peer q = rw q
+
+  pub link-left : isPeerHop e m ≡ false → isLeft e m ≡ true → x ≡ least x (linkMtus seg e m)
+  unfolding linkMtus least
+  link-left q l = rw (q, l) (go (eqb ingressMtu 0))
+    where
+      go : (t : Bool) → x ≡ least x (if t || true then [] else ingressMtu ∷ [])
+      go true = refl
+      go false = refl
+
+  pub link-unknown : isPeerHop e m ≡ false → entryOf seg m .own .«ingress_mtu» ≡ 0 → x ≡ least x (linkMtus seg e m)
+  unfolding linkMtus least
+  link-unknown q z = rw (q, eq-eqb ingressMtu 0 z)
+
+  pub link-known : isPeerHop e m ≡ false → isLeft e m ≡ false → (entryOf seg m .own .«ingress_mtu» ≡ 0 → ⊥)
+      → min x (entryOf seg m .own .«ingress_mtu») ≡ least x (linkMtus seg e m)
+  unfolding linkMtus least
+  link-known q l f = rw (q, ne-eqb ingressMtu 0 f, l)
+
+  mtus-split : mtusAt seg e m ≡ linkMtus seg e m ++ (entryOf seg m .own .mtu % 2 ^ 16 ∷ [])
+  unfolding mtusAt linkMtus isLeft
+  mtus-split = refl
+
+  pub mtus-both : min (least x (linkMtus seg e m)) (entryOf seg m .own .mtu % 2 ^ 16) ≡ least x (mtusAt seg e m)
+  mtus-both =
+      sym (ap (least x) mtus-split ∙ least-append x (linkMtus seg e m) (entryOf seg m .own .mtu % 2 ^ 16 ∷ []) ∙ least-one (least x (linkMtus seg e m)) (entryOf seg m .own .mtu % 2 ^ 16))
+
+-- ---- hops
+
+module _ (b : List ℕ) (bytes : Bytes b) (e : Edge) (m at : ℕ) (here : Here b e m at) (d : List ℕ) (to : ℕ) (d′ : List ℕ) where
+  hop-wrote : d′ ≡ written d to (hopOctets (hopOf (segmentOf b e) e m)) → Wrote d to (entryBytes b e Hops m) d′ (to + hopSize)
+  unfolding entryBytes segmentOf
+  hop-wrote q = wrote-one d to (hopOctets (hopOf (segmentAt b (e .position)) e m)) d′ hopSize (to + hopSize) q (hop-length _ (hop-good b bytes (e .position) e m)) refl
+
+  pub link-wrote : isPeerHop e m ≡ true → d′ ≡ written d to (take hopSize (drop (linkOffset e at + 12) b)) → Wrote d to (entryBytes b e Hops m) d′ (to + hopSize)
+  link-wrote t q =
+      hop-wrote (q ∙ ap (written d to) (link-copied b bytes (linkOffset e at) (here .link t .room) ∙ ap hopOctets (sym (link-hop b e m at here t))))
+
+  pub own-wrote : isPeerHop e m ≡ false → d′ ≡ written d to (hopOctets (asEntryAt b at .hop)) → Wrote d to (entryBytes b e Hops m) d′ (to + hopSize)
+  own-wrote t q = hop-wrote (q ∙ ap (λ h. written d to (hopOctets h)) (sym (own-hop b e m at here t)))

@@ -1,0 +1,185 @@
+-- Where the entries of an edge stand, and what is read there.
+-- Assumes nothing.
+use Prim.Native.Nat.{ℕ, _+_, _-_, _*_, _^_, _≤_, _<_}
+use native.Mathlib.Omega.{arith}
+use mathlib.Core.Path.{_≡_, refl, sym, ap, ap₂, _∙_, subst}
+use mathlib.Core.Bool.{Bool, true, false, _&&_}
+use mathlib.Core.List.{List}
+use lib.ListN.{length, getD}
+use lib.Dec.{ltb}
+use borrow.Author.Tests.{ltb-true, eqb-true, eq-eqb, ne-eqb}
+use Rattle.spec.specs.declared.Head.{Head}
+use Rattle.spec.specs.declared.HopField.{HopField}
+use Rattle.spec.specs.declared.AsEntry.{AsEntry}
+use Rattle.spec.specs.declared.PeerEntry.{PeerEntry}
+use Rattle.spec.specs.declared.Edge.{Edge}
+use Rattle.spec.specs.Limits.{entrySize, maxEntries, maxSegments}
+use Rattle.spec.specs.Basics.{if_then_else_}
+use Rattle.spec.specs.Octets.{be16, be32}
+use Rattle.spec.specs.Book.{segmentCount, entryCountAt, bodyOffset, entryOffset, peerCount, headAt, isdAsnAt, asEntryAt, peerEntryAt, segmentAt}
+use Rattle.spec.specs.Edges.{entryOf, asOf, peerOf}
+use Rattle.spec.specs.Assembly.{isPeerHop, isPeerEdge, atShortcut, hopOf, segmentOf}
+use Rattle.spec.specs.Router.{hopEntry}
+use Rattle.spec.proofs.Membership.{not-both}
+use Rattle.spec.proofs.BookLaws.{AcceptedBook, accepted, entry-count, segment-length}
+use Rattle.spec.proofs.BodyLaws.{entry-place, body-end, peer-place}
+use Rattle.segment.specs.Offsets.{offsetTable}
+use Rattle.segment.proofs.Fitting.{own-read, peers-read, peer-read, offset-small}
+use Rattle.segment.proofs.Tables.{table-at}
+use Rattle.path.specs.Usable.{Ready, Usable}
+use Rattle.path.specs.Places.{isLeft, linkOffset, Link, Here, entryFrom}
+
+both-true : (s t : Bool) → (s && t) ≡ true → (s ≡ true) × (t ≡ true)
+both-true true t q = (refl, q)
+both-true false t q = not-both q refl
+
+peer-at : (e : Edge) (m : ℕ) → isPeerHop e m ≡ true → (m ≡ e .shortcut) × (0 < e .peer)
+unfolding isPeerHop atShortcut isPeerEdge
+peer-at e m q =
+    let p = both-true _ _ q in
+    (eqb-true _ _ (p .0), ltb-true _ _ (p .1))
+
+-- ---- the tests of an entry
+
+pub peer-test : (e : Edge) (m : ℕ) → m ≡ e .shortcut → ltb 0 (e .peer) ≡ isPeerHop e m
+unfolding isPeerHop atShortcut isPeerEdge
+peer-test e m q = sym (ap (λ t. t && ltb 0 (e .peer)) (eq-eqb m (e .shortcut) q))
+
+pub peer-none : (e : Edge) (m : ℕ) → (m ≡ e .shortcut → ⊥) → false ≡ isPeerHop e m
+unfolding isPeerHop atShortcut
+peer-none e m f = sym (ap (λ t. t && isPeerEdge e) (ne-eqb m (e .shortcut) f))
+
+pub left-test : (e : Edge) (m : ℕ) → m ≡ e .shortcut → ltb 0 (e .shortcut) ≡ isLeft e m
+unfolding isLeft atShortcut
+left-test e m q = sym (ap (λ t. t && ltb 0 (e .shortcut)) (eq-eqb m (e .shortcut) q))
+
+pub left-none : (e : Edge) (m : ℕ) → (m ≡ e .shortcut → ⊥) → false ≡ isLeft e m
+unfolding isLeft atShortcut
+left-none e m f = sym (ap (λ t. t && ltb 0 (e .shortcut)) (ne-eqb m (e .shortcut) f))
+
+-- ---- the table tells where an entry stands
+
+module _ (b : List ℕ) (a : AcceptedBook b) (e : Edge) (u : Usable b e) where
+  abbrev k : ℕ
+  k = e .position
+
+  pub count-is : length (segmentOf b e .entries) ≡ entryCountAt b (e .position)
+  unfolding segmentOf
+  count-is = segment-length b (e .position)
+
+  pub count-most : length (segmentOf b e .entries) ≤ maxEntries
+  count-most = omega (arith, count-is, entry-count b a k (u .position))
+
+  -- the entry's place in the table
+  pub row-small : (m : ℕ) → m < length (segmentOf b e .entries) → maxEntries * e .position + m < maxSegments * maxEntries
+  row-small m h = omega (arith, count-most, u .position, a .crowd)
+
+  module _ (m : ℕ) (h : m < length (segmentOf b e .entries)) where
+    abbrev at : ℕ
+    at = entryOffset b (bodyOffset b k) m
+
+    inside : m < entryCountAt b k
+    inside = omega (arith, count-is)
+
+    link : isPeerHop e m ≡ true → Link b e m at
+    unfolding segmentOf linkOffset
+    link q =
+        let w = peer-at e m q in
+        let some : 0 < e .peer = w .1 in
+        let n : length (entryOf (segmentAt b k) m .peers) ≡ peerCount b at = peers-read b k m inside in
+        let most : e .peer ≤ length (entryOf (segmentAt b k) m .peers) =
+        subst (λ i. e .peer ≤ length (entryOf (segmentAt b k) i .peers)) (sym (w .0)) (u .peer) in
+        let few : e .peer - 1 < peerCount b at = omega arith in
+        record {
+          some = some;
+          peer = peer-read b k m (e .peer - 1) inside few;
+          room = omega (arith, peer-place b a k (u .position) m (e .peer - 1) inside few, body-end b a k (u .position));
+        }
+
+    here : Here b e m at
+    unfolding segmentOf
+    here =
+        record {
+          own = own-read b k m inside;
+          room = omega (arith, entry-place b a k (u .position) m inside .entry, body-end b a k (u .position));
+          link = link;
+        }
+
+pub stands : (b offsets : List ℕ) → Ready b offsets → (e : Edge) → Usable b e → (m : ℕ) → m < length (segmentOf b e .entries)
+    → Here b e m (getD offsets (maxEntries * e .position + m) 0) × (getD offsets (maxEntries * e .position + m) 0 < 2 ^ 16)
+stands b offsets r e u m h =
+    let a : AcceptedBook b = accepted b (r .ok) in
+    let i : m < entryCountAt b (e .position) = inside b a e u m h in
+    let t : getD offsets (maxEntries * e .position + m) 0 ≡ entryOffset b (bodyOffset b (e .position)) m =
+    ap (λ l. getD l (maxEntries * e .position + m) 0) (r .table) ∙ table-at b a (e .position) m (u .position) i in
+    (subst (Here b e m) (sym t) (here b a e u m h), omega (arith, offset-small b a (e .position) (u .position) m i))
+
+pub count-read : (b : List ℕ) (e : Edge) (h : Head) → h ≡ headAt b (e .position) → h .entries ≡ length (segmentOf b e .entries)
+unfolding headAt segmentOf
+count-read b e h q = ap (λ (x : Head). x .entries) q ∙ sym (segment-length b (e .position))
+
+-- the entry of a hop
+pub entry-from : (b : List ℕ) (e : Edge) → Usable b e → (n j : ℕ) → n ≡ length (segmentOf b e .entries) → entryFrom e n j ≡ hopEntry (segmentOf b e) e j
+unfolding entryFrom hopEntry
+entry-from b e u n j q = ap₂ (λ (t : Bool) k. if t then e .shortcut + j else k - 1 - j) (u .direction) q
+
+pub from-along : (e : Edge) (n j : ℕ) → e .construction ≡ true → e .shortcut + j ≡ entryFrom e n j
+unfolding entryFrom
+from-along e n j q = sym (ap (λ (t : Bool). if t then e .shortcut + j else n - 1 - j) q)
+
+pub from-against : (e : Edge) (n j : ℕ) → e .construction ≡ false → n - 1 - j ≡ entryFrom e n j
+unfolding entryFrom
+from-against e n j q = sym (ap (λ (t : Bool). if t then e .shortcut + j else n - 1 - j) q)
+
+-- ---- what is read there
+
+module _ (b : List ℕ) (e : Edge) (m at : ℕ) (here : Here b e m at) where
+  pub local-read : isdAsnAt b at ≡ asOf (segmentOf b e) m
+  unfolding asOf asEntryAt
+  local-read = sym (ap (λ (x : AsEntry). x .local) (here .own))
+
+  pub mtu-read : be32 b (at + 8) ≡ entryOf (segmentOf b e) m .own .mtu
+  unfolding asEntryAt
+  mtu-read = sym (ap (λ (x : AsEntry). x .mtu) (here .own))
+
+  pub ingress-mtu-read : be16 b (at + 12) ≡ entryOf (segmentOf b e) m .own .«ingress_mtu»
+  unfolding asEntryAt
+  ingress-mtu-read = sym (ap (λ (x : AsEntry). x .«ingress_mtu») (here .own))
+
+  module _ (q : isPeerHop e m ≡ true) where
+    pub link-hop : hopOf (segmentOf b e) e m ≡ peerEntryAt b (linkOffset e at) .hop
+    unfolding hopOf
+    link-hop = rw q (ap (λ (x : PeerEntry). x .hop) (here .link q .peer))
+
+    pub link-units : getD b (linkOffset e at + 12) 0 ≡ hopOf (segmentOf b e) e m .units
+    unfolding peerEntryAt
+    link-units = sym (ap (λ (x : HopField). x .units) link-hop)
+
+    pub link-ingress : be16 b (linkOffset e at + 13) ≡ hopOf (segmentOf b e) e m .ingress
+    unfolding peerEntryAt
+    link-ingress = sym (ap (λ (x : HopField). x .ingress) link-hop)
+
+    pub link-egress : be16 b (linkOffset e at + 15) ≡ hopOf (segmentOf b e) e m .egress
+    unfolding peerEntryAt
+    link-egress = sym (ap (λ (x : HopField). x .egress) link-hop)
+
+    pub link-mtu-read : be16 b (linkOffset e at + 10) ≡ peerOf (segmentOf b e) m (e .peer - 1) .mtu
+    unfolding peerEntryAt
+    link-mtu-read = sym (ap (λ (x : PeerEntry). x .mtu) (here .link q .peer))
+
+  module _ (q : isPeerHop e m ≡ false) where
+    pub own-hop : hopOf (segmentOf b e) e m ≡ asEntryAt b at .hop
+    unfolding hopOf
+    own-hop = rw q (ap (λ (x : AsEntry). x .hop) (here .own))
+
+    pub own-units : getD b (at + 18) 0 ≡ hopOf (segmentOf b e) e m .units
+    unfolding asEntryAt
+    own-units = sym (ap (λ (x : HopField). x .units) own-hop)
+
+    pub own-ingress : be16 b (at + 14) ≡ hopOf (segmentOf b e) e m .ingress
+    unfolding asEntryAt
+    own-ingress = sym (ap (λ (x : HopField). x .ingress) own-hop)
+
+    pub own-egress : be16 b (at + 16) ≡ hopOf (segmentOf b e) e m .egress
+    unfolding asEntryAt
+    own-egress = sym (ap (λ (x : HopField). x .egress) own-hop)

@@ -1,0 +1,44 @@
+-- `build` meets its contract.
+-- Assumes nothing.
+use native.Mathlib.Omega.{arith}
+use Rattle.spec.proofs.BookLaws.{accepted}
+use Rattle.path.proofs.Assembling.{answer-loop, answer-bare, answer-path}
+use borrow.Author.Needs.{needs}
+use Rattle.path.proofs.build.Statement.{statement}
+use Rattle.path.proofs.build.Tie as tie
+
+returns : tie.Need-returns
+returns c =
+    answer-loop _ (λ i. c .before .before .before .before .before .before .before .before .before .before .before .before .before .shared-slice-known .given i .fits) (accepted _ (c .before .before .before .before .before .before .before .before .before .before .before .before .before .before .pre .0 .ok)) _ (c .before .before .before .before .before .before .before .before .before .before .before .before .before .before .pre .1 .0) _ _ (c .before .before .before .before .before .before .before .before .before .before .put-front .ensures .0) (omega arith)
+    _ (omega arith) _ (c .before .before .before .before .before .is-frequent .ensures) (c .before .before .before .before .if1 .taken) _ (c .before .before .zero .ensures)
+
+returns-2 : tie.Need-returns-2
+returns-2 c =
+    answer-bare _ (λ i. c .before .before .before .before .before .before .before .before .before .before .before .before .before .before .shared-slice-known .given i .fits) (accepted _ (c .before .before .before .before .before .before .before .before .before .before .before .before .before .before .before .pre .0 .ok)) _ (c .before .before .before .before .before .before .before .before .before .before .before .before .before .before .before .pre .1 .0) _ _ (c .before .before .before .before .before .before .before .before .before .before .before .put-front .ensures .0) (omega arith)
+    _ (omega arith) _ (c .before .before .before .before .before .before .is-frequent .ensures) (c .before .before .before .before .before .if1 .left) (c .before .before .before .before .if2 .taken) _ (c .before .before .zero2 .ensures)
+
+put-path-requires : tie.Need-put-path-requires
+put-path-requires c κs =
+    (c .before .before .before .before .before .before .before .before .before .before .before .before .pre .0, (c .before .before .before .before .before .before .before .before .before .before .before .before .pre .1 .0, (c .before .before .before .before .before .before .before .before .put-front .ensures .0, (omega arith, (omega arith, omega arith)))))
+
+returns-3 : tie.Need-returns-3
+returns-3 c =
+    answer-path _ (λ i. c .before .before .before .before .before .before .before .before .before .before .before .before .before .before .shared-slice-known .given i .fits) (accepted _ (c .before .before .before .before .before .before .before .before .before .before .before .before .before .before .before .pre .0 .ok)) _ (c .before .before .before .before .before .before .before .before .before .before .before .before .before .before .before .pre .1 .0) _ _ (c .before .before .before .before .before .before .before .before .before .before .before .put-front .ensures .0) (omega arith)
+    _ (omega arith) _ (c .before .before .before .before .before .before .is-frequent .ensures) (c .before .before .before .before .before .if1 .left) (c .before .before .before .before .if2 .left) _ (c .before .before .put-path .ensures)
+
+pub build-spec : {M : Type 1} → statement M
+build-spec =
+    tie.close
+    (tie.spec
+    (λ c κs. search needs)
+    (λ c. search needs)
+    (λ c κs. search needs)
+    (λ c κs. search needs)
+    (λ c. search needs)
+    returns
+    (λ c κs. search needs)
+    (λ c. search needs)
+    returns-2
+    put-path-requires
+    (λ c. search needs)
+    returns-3)

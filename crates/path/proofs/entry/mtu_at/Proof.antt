@@ -1,0 +1,15 @@
+-- `mtu_at` meets its contract.
+-- Assumes nothing.
+use Rattle.path.proofs.Standing.{mtu-read}
+use Rattle.path.proofs.Showing.{mtus-both}
+use borrow.Author.Needs.{needs}
+use Rattle.path.proofs.entry.mtu_at.Statement.{statement}
+use Rattle.path.proofs.entry.mtu_at.Tie as tie
+
+returns : tie.Need-returns
+returns c =
+    rw (c .less .ensures, c .before .before .link-mtu .ensures, c .before .be32-past .ensures, mtu-read _ _ _ _ (c .before .before .before .before .pre .0)) (mtus-both _ _ _ _)
+
+pub mtu-at-spec : {M : Type 1} → statement M
+mtu-at-spec =
+    tie.close (tie.spec (λ c κs. search needs) (λ c κs. search needs) (λ c. search needs) (λ c κs. search needs) returns)

@@ -1,0 +1,16 @@
+-- `put_id` meets its contract.
+-- Assumes nothing.
+use native.Mathlib.Omega.{arith}
+use Rattle.path.proofs.Showing.{id-none, id-some}
+use borrow.Author.Needs.{needs}
+use Rattle.path.proofs.entry.put_id.Statement.{statement}
+use Rattle.path.proofs.entry.put_id.Tie as tie
+
+returns : tie.Need-returns
+returns c = (id-none _ _ _ (c .if1 .taken), omega arith)
+
+returns-2 : tie.Need-returns-2
+returns-2 c = (id-some _ _ _ _ (c .before .before .before .before .if1 .left) (c .before .before .put16 .ensures), omega arith)
+
+pub put-id-spec : {M : Type 1} → statement M
+put-id-spec = tie.close (tie.spec returns (λ c κs. search needs) (λ c. search needs) (λ c. search needs) returns-2)

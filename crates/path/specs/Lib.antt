@@ -1,0 +1,4 @@
+pub mod Usable
+pub mod Places
+pub mod Parts
+pub mod Whole

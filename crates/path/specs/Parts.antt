@@ -1,0 +1,84 @@
+-- What a path's record holds of an entry, of an edge and of a chain.
+-- Assumes nothing.
+use Prim.Native.Nat.{ℕ, _+_, _-_, _*_}
+use mathlib.Core.Bool.{_&&_, _||_, not}
+use mathlib.Core.List.{List, [], _∷_, map, flatMap}
+use lib.Dec.{eqb}
+use Rattle.spec.specs.declared.IsdAsn.{IsdAsn}
+use Rattle.spec.specs.declared.PathInterface.{PathInterface}
+use Rattle.spec.specs.declared.Edge.{Edge}
+use Rattle.spec.specs.Basics.{if_then_else_}
+use Rattle.spec.specs.Octets.{octets2}
+use Rattle.spec.specs.Book.{Segment}
+use Rattle.spec.specs.Edges.{entryOf, peerOf}
+use Rattle.path.specs.Places.{isLeft, passed, fromLeaf}
+use Rattle.spec.specs.Assembly.{least, unitsOf, mtusAt, isPeerEdge, isPeerHop, interfaceIf, interfacesAt, inDirection, hopOf, segmentOf, infoOn, hopsOn, interfacesOn}
+use Rattle.spec.specs.Records.{bit, infoOctets, hopOctets, asOctets, interfaceAsOctets, interfaceIdOctets}
+use Rattle.path.specs.declared.Part.{Part}
+use Rattle.path.specs.declared.Part.the-variants.{Hops, Ases, Ids}
+use Rattle.path.specs.declared.Chain.{Chain}
+use Rattle.path.specs.declared.Chain.the-variants.{One, Two, Three, Stranger}
+
+abbrev pub chainEdges : Chain → List Edge
+chainEdges (One e) = e ∷ []
+chainEdges (Two e f) = e ∷ f ∷ []
+chainEdges (Three e f g) = e ∷ f ∷ g ∷ []
+chainEdges Stranger = []
+
+-- the MTU of the link over which entry m is entered, if it counts
+unfoldable pub linkMtus : Segment → Edge → ℕ → List ℕ
+linkMtus seg e m =
+    if isPeerHop e m then peerOf seg m (e .peer - 1) .mtu ∷ []
+    else if eqb (entryOf seg m .own .«ingress_mtu») 0 || isLeft e m then []
+    else entryOf seg m .own .«ingress_mtu» ∷ []
+
+-- where the path leaves the segment with no peer, no ingress is shown
+unfoldable pub ingressShown : Edge → ℕ → ℕ → ℕ
+ingressShown e m ingress = if eqb (e .peer) 0 && isLeft e m then 0 else ingress
+
+-- an interface is shown where its id is not 0
+unfoldable pub shownAs : IsdAsn → ℕ → List PathInterface
+shownAs a id = interfaceIf (not (eqb id 0)) a id
+
+unfoldable pub asIf : IsdAsn → ℕ → List ℕ
+asIf a id = if eqb id 0 then [] else asOctets a
+
+unfoldable pub idIf : ℕ → List ℕ
+idIf id = if eqb id 0 then [] else octets2 id
+
+module _ (b : List ℕ) (e : Edge) where
+  -- the interfaces at entry m, in the path's order
+  unfoldable pub interfacesHere : ℕ → List PathInterface
+  interfacesHere m = inDirection (e .construction) (interfacesAt (segmentOf b e) e m)
+
+  unfoldable pub entryBytes : Part → ℕ → List ℕ
+  entryBytes Hops m = hopOctets (hopOf (segmentOf b e) e m)
+  entryBytes Ases m = flatMap interfaceAsOctets (interfacesHere m)
+  entryBytes Ids m = flatMap interfaceIdOctets (interfacesHere m)
+
+  -- what the first j hops give
+  unfoldable pub walked : Part → ℕ → List ℕ
+  walked part j = flatMap (entryBytes part) (passed b e j)
+
+  -- the least units among the first j hops
+  unfoldable pub unitsPassed : ℕ → ℕ
+  unitsPassed j = least 255 (map unitsOf (map (hopOf (segmentOf b e) e) (passed b e j)))
+
+  -- the least of x and the MTUs of the first j entries from the leaf down
+  unfoldable pub mtusPassed : ℕ → ℕ → ℕ
+  mtusPassed x j = least x (flatMap (mtusAt (segmentOf b e) e) (fromLeaf b e j))
+
+-- where the fold of the segment id stops: below the first hop's entry k, or past it where its hop is a peer's
+unfoldable pub stopFrom : Edge → ℕ → ℕ
+stopFrom e k = if isPeerHop e k then k + 1 else k
+
+unfoldable pub flagsOf : Edge → ℕ
+flagsOf e = bit (e .construction) + 2 * bit (isPeerEdge e)
+
+unfoldable pub infoBytes : List ℕ → Edge → List ℕ
+infoBytes b e = infoOctets (infoOn b e)
+
+unfoldable pub edgeBytes : List ℕ → Part → Edge → List ℕ
+edgeBytes b Hops e = flatMap hopOctets (hopsOn b e)
+edgeBytes b Ases e = flatMap interfaceAsOctets (interfacesOn b e)
+edgeBytes b Ids e = flatMap interfaceIdOctets (interfacesOn b e)

@@ -1,0 +1,53 @@
+-- Where an entry of an edge stands in the book, and what a write leaves.
+-- Assumes nothing.
+use Prim.Native.Nat.{ℕ, _+_, _-_, _<_, _≤_}
+use mathlib.Core.Path.{_≡_}
+use mathlib.Core.Bool.{Bool, true, _&&_}
+use mathlib.Core.List.{List, map}
+use lib.ListN.{length}
+use lib.Dec.{ltb}
+use Rattle.spec.specs.declared.Edge.{Edge}
+use Rattle.spec.specs.Limits.{entrySize, peerSize}
+use Rattle.spec.specs.Basics.{if_then_else_, range}
+use Rattle.spec.specs.Book.{asEntryAt, peerEntryAt, peerOffset}
+use Rattle.spec.specs.Edges.{entryOf, peerOf}
+use Rattle.spec.specs.Assembly.{atShortcut, isPeerHop, segmentOf}
+use Rattle.spec.specs.Router.{hopEntry}
+use Rattle.octets.specs.Write.{written}
+
+-- entry m is the shortcut, above the segment's first entry: there the path leaves the segment, or comes to it
+unfoldable pub isLeft : Edge → ℕ → Bool
+isLeft e m = atShortcut e m && ltb 0 (e .shortcut)
+
+-- the edge's peer, where its entry stands at an offset
+unfoldable pub linkOffset : Edge → ℕ → ℕ
+linkOffset e at = peerOffset at (e .peer - 1)
+
+pub record Link (b : List ℕ) (e : Edge) (m at : ℕ) : Type 0 where
+  pub some : 0 < e .peer
+  pub peer : peerOf (segmentOf b e) m (e .peer - 1) ≡ peerEntryAt b (linkOffset e at)
+  pub room : linkOffset e at + peerSize ≤ length b
+
+-- entry m of the edge's segment stands at an offset
+pub record Here (b : List ℕ) (e : Edge) (m at : ℕ) : Type 0 where
+  pub own : entryOf (segmentOf b e) m .own ≡ asEntryAt b at
+  pub room : at + entrySize ≤ length b
+  pub link : isPeerHop e m ≡ true → Link b e m at
+
+-- the entry of hop j, of n entries
+unfoldable pub entryFrom : Edge → ℕ → ℕ → ℕ
+entryFrom e n j = if e .construction then e .shortcut + j else n - 1 - j
+
+module _ (b : List ℕ) (e : Edge) where
+  -- the entries of the first j hops
+  unfoldable pub passed : ℕ → List ℕ
+  passed j = map (hopEntry (segmentOf b e) e) (range 0 j)
+
+  -- the first j entries from the leaf down
+  unfoldable pub fromLeaf : ℕ → List ℕ
+  fromLeaf j = map (λ i. length (segmentOf b e .entries) - 1 - i) (range 0 j)
+
+-- xs stand in d from `at` up to r
+pub record Wrote (d : List ℕ) (at : ℕ) (xs d′ : List ℕ) (r : ℕ) : Type 0 where
+  pub bytes : d′ ≡ written d at xs
+  pub end : r ≡ at + length xs

@@ -1,0 +1,23 @@
+-- What the code of assembly goes by: an accepted book with its table of entry offsets, and an edge of one of its segments.
+-- Assumes nothing.
+use Prim.Native.Nat.{ℕ, _<_, _≤_}
+use mathlib.Core.Path.{_≡_}
+use mathlib.Core.List.{List}
+use lib.ListN.{length}
+use Rattle.spec.specs.declared.Edge.{Edge}
+use Rattle.spec.specs.declared.Verdict.the-variants.{Accepted}
+use Rattle.spec.specs.Book.{segmentCount, verdict}
+use Rattle.spec.specs.Edges.{entryOf}
+use Rattle.spec.specs.Assembly.{segmentOf}
+use Rattle.spec.specs.Router.{isAlong}
+use Rattle.segment.specs.Offsets.{offsetTable}
+
+pub record Ready (b offsets : List ℕ) : Type 0 where
+  pub ok : verdict b ≡ Accepted
+  pub table : offsets ≡ offsetTable b
+
+pub record Usable (b : List ℕ) (e : Edge) : Type 0 where
+  pub position : e .position < segmentCount b
+  pub shortcut : e .shortcut < length (segmentOf b e .entries)
+  pub peer : e .peer ≤ length (entryOf (segmentOf b e) (e .shortcut) .peers)
+  pub direction : e .construction ≡ isAlong (segmentOf b e) e

@@ -1,0 +1,54 @@
+-- The edges of a chain, and the ASes of a path's interfaces as they stand in its record.
+-- Assumes nothing.
+use Prim.Native.Nat.{ℕ, _+_, _*_}
+use mathlib.Core.Path.{_≡_}
+use mathlib.Core.Bool.{Bool}
+use mathlib.Core.List.{List, _++_, map, flatMap, List·Memᴰ as Mem}
+use lib.ListN.{length}
+use lib.Dec.{eqb, ltb}
+use Rattle.spec.specs.declared.Edge.{Edge}
+use Rattle.spec.specs.Limits.{pathHeadSize}
+use Rattle.spec.specs.Basics.{any, filter, range}
+use Rattle.spec.specs.Octets.{be64}
+use Rattle.path.specs.declared.Chain.{Chain}
+use Rattle.path.specs.declared.Part.the-variants.{Hops, Ases}
+use Rattle.path.specs.declared.record.Front.{Front}
+use Rattle.path.specs.Usable.{Usable}
+use Rattle.path.specs.Places.{Wrote}
+use Rattle.path.specs.Parts.{chainEdges, infoBytes, edgeBytes}
+
+pub record UsableChain (b : List ℕ) (chain : Chain) : Type 0 where
+  pub edges : (e : Edge) → Mem e (chainEdges chain) → Usable b e
+
+-- numbers of 8 bytes from an offset on
+unfoldable pub numberAt : List ℕ → ℕ → ℕ → ℕ
+numberAt d at k = be64 d (at + 8 * k)
+
+unfoldable pub numbersIn : List ℕ → ℕ → ℕ → List ℕ
+numbersIn d at n = map (numberAt d at) (range 0 n)
+
+unfoldable pub isNumber : ℕ → ℕ → Bool
+isNumber x y = eqb y x
+
+-- how often x is among them
+unfoldable pub timesIn : ℕ → List ℕ → ℕ
+timesIn x ns = length (filter (isNumber x) ns)
+
+-- more than twice
+unfoldable pub isFrequent : List ℕ → ℕ → Bool
+isFrequent ns x = ltb 2 (timesIn x ns)
+
+unfoldable pub someFrequent : List ℕ → List ℕ → Bool
+someFrequent ns xs = any (isFrequent ns) xs
+
+-- what stands before the ids: infos, hops, ASes
+unfoldable pub frontBytes : List ℕ → List Edge → List ℕ
+frontBytes b c = (flatMap (infoBytes b) c ++ flatMap (edgeBytes b Hops) c) ++ flatMap (edgeBytes b Ases) c
+
+-- it stands in d
+pub record Fronted (b : List ℕ) (c : List Edge) (d : List ℕ) (f : Front) : Type 0 where
+  pub before : List ℕ
+  pub bytes : Wrote before pathHeadSize (frontBytes b c) d (f .ids)
+  pub hops : f .hops ≡ pathHeadSize + length (flatMap (infoBytes b) c)
+  pub ases : f .ases ≡ f .hops + length (flatMap (edgeBytes b Hops) c)
+  pub ids : f .ids ≡ f .ases + length (flatMap (edgeBytes b Ases) c)

@@ -1,0 +1,187 @@
+// What a path holds of one edge: a walk over its hops in the path's order, for MTUs from the leaf down.
+ghost use mathlib.Core.Path.{_≡_};
+ghost use mathlib.Core.List.{[], _∷_, _++_, map};
+ghost use Prim.Native.Nat.{_+_, _*_, _^_, _≤_, _<_, min};
+ghost use Rattle.spec.specs.Limits.{maxEntries, infoSize};
+ghost use Rattle.spec.specs.Octets.{octets2, octets4};
+ghost use Rattle.spec.specs.Assembly.{least, unitsOf, hopsOn, mtusOn, expiryOn, idBelow, stopAt, segmentOf};
+ghost use Rattle.spec.specs.Records.{bit};
+ghost use Rattle.octets.specs.Write.{written};
+ghost use Rattle.path.specs.Usable.{Ready, Usable};
+ghost use Rattle.path.specs.Places.{Wrote};
+ghost use Rattle.path.specs.Parts.{infoBytes, edgeBytes, stopFrom, flagsOf};
+use crate::Part;
+use crate::entry;
+use crate::places;
+use spec::Edge;
+
+// The bytes of an info in a path.
+pub const INFO: usize = 8;
+
+// The last second that a path can say.
+pub const LAST: u32 = 4294967295;
+
+// Writes a part of the path.
+pub(crate) fn put_part(
+    book: &[u8],
+    table: &[u16; places::PLACES],
+    e: Edge,
+    part: Part,
+    out: &mut [u8],
+    at: usize,
+) -> usize
+    requires { ⌜ Ready (now book) (now table) ⌝ }
+    requires { ⌜ Usable (now book) e ⌝ }
+    requires { ⌜ at < 2 ^ 32 ⌝ }
+    ensures { λ r. ⌜ Wrote (now (out .entry)) at (edgeBytes (now (book .entry)) part e) (now (out .exit)) r × (r ≤ at + 16 * maxEntries) ⌝ }
+{
+    let n = places::entry_count(book, e);
+    let hops = n - (e.shortcut as usize);
+    let mut to = at;
+    let mut j: usize = 0;
+    while j < hops {
+        let m = places::entry_of(e, n, j);
+        to = entry::put_entry(book, table, e, m, part, out, to);
+        j += 1;
+    }
+    to
+}
+
+// ---- MTU
+
+// The least of x and the edge's MTUs.
+pub(crate) fn mtu(book: &[u8], table: &[u16; places::PLACES], e: Edge, x: u16) -> u16
+    requires { ⌜ Ready (now book) (now table) ⌝ }
+    requires { ⌜ Usable (now book) e ⌝ }
+    ensures { λ r. ⌜ r ≡ least x (mtusOn (now (book .entry)) e) ⌝ }
+{
+    let n = places::entry_count(book, e);
+    let hops = n - (e.shortcut as usize);
+    let mut y = x;
+    let mut j: usize = 0;
+    while j < hops {
+        let m = n - 1 - j;
+        let at = places::offset(book, table, e, m);
+        y = entry::mtu_at(book, e, m, at, y);
+        j += 1;
+    }
+    y
+}
+
+// ---- expiry
+
+fn less(x: u8, y: u8) -> u8
+    ensures { λ r. ⌜ r ≡ min x y ⌝ }
+{
+    if y < x {
+        return y;
+    }
+    x
+}
+
+// The least units among the hops.
+fn units(book: &[u8], table: &[u16; places::PLACES], e: Edge) -> u8
+    requires { ⌜ Ready (now book) (now table) ⌝ }
+    requires { ⌜ Usable (now book) e ⌝ }
+    ensures { λ r. ⌜ r ≡ least 255 (map unitsOf (hopsOn (now (book .entry)) e)) ⌝ }
+{
+    let n = places::entry_count(book, e);
+    let hops = n - (e.shortcut as usize);
+    let mut x: u8 = 255;
+    let mut j: usize = 0;
+    while j < hops {
+        let m = places::entry_of(e, n, j);
+        let at = places::offset(book, table, e, m);
+        x = less(x, entry::units_at(book, e, m, at));
+        j += 1;
+    }
+    x
+}
+
+pub(crate) fn expiry(book: &[u8], table: &[u16; places::PLACES], e: Edge) -> u32
+    requires { ⌜ Ready (now book) (now table) ⌝ }
+    requires { ⌜ Usable (now book) e ⌝ }
+    ensures { λ r. ⌜ r ≡ expiryOn (now (book .entry)) e ⌝ }
+{
+    let head = segment::head(book, e.position);
+    let start = head.timestamp;
+    let life = standard::types::exp_time_to_duration(units(book, table, e));
+    if LAST - start < life {
+        return LAST;
+    }
+    start + life
+}
+
+// ---- info
+
+// Where the fold stops, from the first hop's entry.
+fn stop_from(e: Edge, k: usize) -> usize
+    requires { ⌜ k < maxEntries ⌝ }
+    ensures { λ r. ⌜ (r ≡ stopFrom e k) × (r ≤ k + 1) ⌝ }
+{
+    if places::is_peer_hop(e, k) {
+        return k + 1;
+    }
+    k
+}
+
+// The segment's id, with the MACs of the entries before the first hop folded in.
+fn segment_id(book: &[u8], table: &[u16; places::PLACES], e: Edge) -> u16
+    requires { ⌜ Ready (now book) (now table) ⌝ }
+    requires { ⌜ Usable (now book) e ⌝ }
+    ensures { λ r. ⌜ r ≡ idBelow (segmentOf (now (book .entry)) e) (stopAt (segmentOf (now (book .entry)) e) e) ⌝ }
+{
+    let n = places::entry_count(book, e);
+    let stop = stop_from(e, places::entry_of(e, n, 0));
+    let head = segment::head(book, e.position);
+    let mut id = head.id;
+    let mut i: usize = 0;
+    while i < stop {
+        let at = places::offset(book, table, e, i);
+        id = standard::mac::mac_beta_step(id, places::mac(book, at));
+        i += 1;
+    }
+    id
+}
+
+fn bit(t: bool) -> u8
+    ensures { λ r. ⌜ (r ≡ bit t) × (r ≤ 1) ⌝ }
+{
+    if t { 1 } else { 0 }
+}
+
+fn flags(e: Edge) -> u8
+    ensures { λ r. ⌜ r ≡ flagsOf e ⌝ }
+{
+    bit(e.construction) + 2 * bit(0 < e.peer)
+}
+
+fn put_fields(out: &mut [u8], at: usize, flags: u8, hops: u8, id: u16, timestamp: u32)
+    requires { ⌜ at < 2 ^ 33 ⌝ }
+    ensures { λ _. ⌜ now (out .exit) ≡ written (now (out .entry)) at ((flags ∷ hops ∷ []) ++ octets2 id ++ octets4 timestamp) ⌝ }
+{
+    octets::put_byte(out, at, flags);
+    octets::put_byte(out, at + 1, hops);
+    octets::put16(out, at + 2, id);
+    octets::put32(out, at + 4, timestamp);
+}
+
+pub(crate) fn put_info(
+    book: &[u8],
+    table: &[u16; places::PLACES],
+    e: Edge,
+    out: &mut [u8],
+    at: usize,
+) -> usize
+    requires { ⌜ Ready (now book) (now table) ⌝ }
+    requires { ⌜ Usable (now book) e ⌝ }
+    requires { ⌜ at < 2 ^ 32 ⌝ }
+    ensures { λ r. ⌜ Wrote (now (out .entry)) at (infoBytes (now (book .entry)) e) (now (out .exit)) r × (r ≡ at + infoSize) ⌝ }
+{
+    let n = places::entry_count(book, e);
+    let hops = n - (e.shortcut as usize);
+    let head = segment::head(book, e.position);
+    let id = segment_id(book, table, e);
+    put_fields(out, at, flags(e), hops as u8, id, head.timestamp);
+    at + INFO
+}

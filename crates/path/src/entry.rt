@@ -1,0 +1,232 @@
+// What a path holds of one entry.
+ghost use mathlib.Core.Path.{_≡_};
+ghost use mathlib.Core.List.{_++_};
+ghost use Prim.Native.Nat.{_+_, _^_, _≤_, _<_, min};
+ghost use lib.ListN.{length};
+ghost use Rattle.spec.specs.Limits.{entrySize};
+ghost use Rattle.spec.specs.Book.{asEntryAt};
+ghost use Rattle.spec.specs.Edges.{asOf};
+ghost use Rattle.octets.specs.Write.{written};
+ghost use Rattle.spec.specs.Assembly.{least, mtusAt, hopOf, segmentOf};
+ghost use Rattle.spec.specs.Records.{hopOctets};
+ghost use Rattle.path.specs.Usable.{Ready, Usable};
+ghost use Rattle.path.specs.Places.{Here, Wrote};
+ghost use Rattle.path.specs.declared.Part.the-variants.{Hops, Ases, Ids};
+ghost use Rattle.path.specs.Parts.{linkMtus, ingressShown, shownAs, asIf, idIf, interfacesHere, entryBytes};
+use crate::Part;
+use crate::places;
+use spec::Edge;
+use spec::IsdAsn;
+
+// The bytes of a hop in a path.
+pub const HOP: usize = 11;
+
+// The ids of the interfaces at an entry, in the path's order; 0 where one is not shown.
+pub(crate) struct ShownIds {
+    first: u16,
+    second: u16,
+}
+
+// ---- hops
+
+pub(crate) fn units_at(book: &[u8], e: Edge, m: usize, at: usize) -> u8
+    requires { ⌜ Here (now book) e m at ⌝ }
+    requires { ⌜ at < 2 ^ 16 ⌝ }
+    ensures { λ r. ⌜ r ≡ hopOf (segmentOf (now (book .entry)) e) e m .units ⌝ }
+{
+    if places::is_peer_hop(e, m) {
+        return octets::byte_past(book, places::link_offset(e, at), 12);
+    }
+    octets::byte_past(book, at, 18)
+}
+
+fn ingress_at(book: &[u8], e: Edge, m: usize, at: usize) -> u16
+    requires { ⌜ Here (now book) e m at ⌝ }
+    requires { ⌜ at < 2 ^ 16 ⌝ }
+    ensures { λ r. ⌜ r ≡ hopOf (segmentOf (now (book .entry)) e) e m .ingress ⌝ }
+{
+    if places::is_peer_hop(e, m) {
+        return octets::be16_past(book, places::link_offset(e, at), 13);
+    }
+    octets::be16_past(book, at, 14)
+}
+
+fn egress_at(book: &[u8], e: Edge, m: usize, at: usize) -> u16
+    requires { ⌜ Here (now book) e m at ⌝ }
+    requires { ⌜ at < 2 ^ 16 ⌝ }
+    ensures { λ r. ⌜ r ≡ hopOf (segmentOf (now (book .entry)) e) e m .egress ⌝ }
+{
+    if places::is_peer_hop(e, m) {
+        return octets::be16_past(book, places::link_offset(e, at), 15);
+    }
+    octets::be16_past(book, at, 16)
+}
+
+// An entry's own hop: in the book its units stand after the interfaces.
+fn put_own_hop(book: &[u8], at: usize, out: &mut [u8], to: usize)
+    requires { ⌜ at + entrySize ≤ length (now book) ⌝ }
+    requires { ⌜ at < 2 ^ 16 ⌝ }
+    requires { ⌜ to < 2 ^ 40 ⌝ }
+    ensures { λ _. ⌜ now (out .exit) ≡ written (now (out .entry)) to (hopOctets (asEntryAt (now (book .entry)) at .hop)) ⌝ }
+{
+    octets::put_byte(out, to, octets::byte_past(book, at, 18));
+    octets::copy(book, at + 14, 4, out, to + 1);
+    octets::copy(book, at + 19, 6, out, to + 5);
+}
+
+// A peer's hop stands in the book as in a path.
+fn put_hop(book: &[u8], e: Edge, m: usize, at: usize, out: &mut [u8], to: usize) -> usize
+    requires { ⌜ Here (now book) e m at ⌝ }
+    requires { ⌜ at < 2 ^ 16 ⌝ }
+    requires { ⌜ to < 2 ^ 40 ⌝ }
+    ensures { λ r. ⌜ Wrote (now (out .entry)) to (entryBytes (now (book .entry)) e Hops m) (now (out .exit)) r × (r ≤ to + 16) ⌝ }
+{
+    if places::is_peer_hop(e, m) {
+        let from = places::link_offset(e, at) + 12;
+        octets::copy(book, from, HOP, out, to);
+        return to + HOP;
+    }
+    put_own_hop(book, at, out, to);
+    to + HOP
+}
+
+// ---- interfaces
+
+// Where a segment is left between two hops, at a shortcut above its first entry, no ingress is shown.
+fn shown_ingress(e: Edge, m: usize, ingress: u16) -> u16
+    ensures { λ r. ⌜ r ≡ ingressShown e m ingress ⌝ }
+{
+    if e.peer == 0 {
+        if places::is_left(e, m) {
+            return 0;
+        }
+    }
+    ingress
+}
+
+fn shown(book: &[u8], e: Edge, m: usize, at: usize) -> ShownIds
+    requires { ⌜ Here (now book) e m at ⌝ }
+    requires { ⌜ at < 2 ^ 16 ⌝ }
+    ensures { λ r. ⌜ interfacesHere (now (book .entry)) e m ≡ shownAs (asOf (segmentOf (now (book .entry)) e) m) (r .first) ++ shownAs (asOf (segmentOf (now (book .entry)) e) m) (r .second) ⌝ }
+{
+    let egress = egress_at(book, e, m, at);
+    let ingress = shown_ingress(e, m, ingress_at(book, e, m, at));
+    if e.construction {
+        return ShownIds {
+            first: ingress,
+            second: egress,
+        };
+    }
+    ShownIds {
+        first: egress,
+        second: ingress,
+    }
+}
+
+fn put_as(out: &mut [u8], to: usize, local: IsdAsn, id: u16) -> usize
+    requires { ⌜ to < 2 ^ 41 ⌝ }
+    ensures { λ r. ⌜ Wrote (now (out .entry)) to (asIf local id) (now (out .exit)) r × (r ≤ to + 8) ⌝ }
+{
+    if id == 0 {
+        return to;
+    }
+    octets::put64(out, to, local.0);
+    to + 8
+}
+
+fn put_id(out: &mut [u8], to: usize, id: u16) -> usize
+    requires { ⌜ to < 2 ^ 41 ⌝ }
+    ensures { λ r. ⌜ Wrote (now (out .entry)) to (idIf id) (now (out .exit)) r × (r ≤ to + 2) ⌝ }
+{
+    if id == 0 {
+        return to;
+    }
+    octets::put16(out, to, id);
+    to + 2
+}
+
+fn put_ases(book: &[u8], e: Edge, m: usize, at: usize, out: &mut [u8], to: usize) -> usize
+    requires { ⌜ Here (now book) e m at ⌝ }
+    requires { ⌜ at < 2 ^ 16 ⌝ }
+    requires { ⌜ to < 2 ^ 40 ⌝ }
+    ensures { λ r. ⌜ Wrote (now (out .entry)) to (entryBytes (now (book .entry)) e Ases m) (now (out .exit)) r × (r ≤ to + 16) ⌝ }
+{
+    let shown = shown(book, e, m, at);
+    let local = segment::isd_asn(book, at);
+    let next = put_as(out, to, local, shown.first);
+    put_as(out, next, local, shown.second)
+}
+
+fn put_ids(book: &[u8], e: Edge, m: usize, at: usize, out: &mut [u8], to: usize) -> usize
+    requires { ⌜ Here (now book) e m at ⌝ }
+    requires { ⌜ at < 2 ^ 16 ⌝ }
+    requires { ⌜ to < 2 ^ 40 ⌝ }
+    ensures { λ r. ⌜ Wrote (now (out .entry)) to (entryBytes (now (book .entry)) e Ids m) (now (out .exit)) r × (r ≤ to + 16) ⌝ }
+{
+    let shown = shown(book, e, m, at);
+    let next = put_id(out, to, shown.first);
+    put_id(out, next, shown.second)
+}
+
+pub(crate) fn put_entry(
+    book: &[u8],
+    table: &[u16; places::PLACES],
+    e: Edge,
+    m: usize,
+    part: Part,
+    out: &mut [u8],
+    to: usize,
+) -> usize
+    requires { ⌜ Ready (now book) (now table) ⌝ }
+    requires { ⌜ Usable (now book) e ⌝ }
+    requires { ⌜ m < length (segmentOf (now book) e .entries) ⌝ }
+    requires { ⌜ to < 2 ^ 40 ⌝ }
+    ensures { λ r. ⌜ Wrote (now (out .entry)) to (entryBytes (now (book .entry)) e part m) (now (out .exit)) r × (r ≤ to + 16) ⌝ }
+{
+    let at = places::offset(book, table, e, m);
+    match part {
+        Part::Hops => put_hop(book, e, m, at, out, to),
+        Part::Ases => put_ases(book, e, m, at, out, to),
+        Part::Ids => put_ids(book, e, m, at, out, to),
+    }
+}
+
+// ---- MTUs
+
+fn less(x: u16, y: u16) -> u16
+    ensures { λ r. ⌜ r ≡ min x y ⌝ }
+{
+    if y < x {
+        return y;
+    }
+    x
+}
+
+// The least of x and the MTU of the link over which the entry is entered.
+fn link_mtu(book: &[u8], e: Edge, m: usize, at: usize, x: u16) -> u16
+    requires { ⌜ Here (now book) e m at ⌝ }
+    requires { ⌜ at < 2 ^ 16 ⌝ }
+    ensures { λ r. ⌜ r ≡ least x (linkMtus (segmentOf (now (book .entry)) e) e m) ⌝ }
+{
+    if places::is_peer_hop(e, m) {
+        return less(x, octets::be16_past(book, places::link_offset(e, at), 10));
+    }
+    if places::is_left(e, m) {
+        return x;
+    }
+    let ingress = octets::be16_past(book, at, 12);
+    if ingress == 0 {
+        return x;
+    }
+    less(x, ingress)
+}
+
+// The least of x and the entry's MTUs.
+pub(crate) fn mtu_at(book: &[u8], e: Edge, m: usize, at: usize, x: u16) -> u16
+    requires { ⌜ Here (now book) e m at ⌝ }
+    requires { ⌜ at < 2 ^ 16 ⌝ }
+    ensures { λ r. ⌜ r ≡ least x (mtusAt (segmentOf (now (book .entry)) e) e m) ⌝ }
+{
+    let y = link_mtu(book, e, m, at, x);
+    less(y, (octets::be32_past(book, at, 8) % 65536) as u16)
+}

@@ -1,0 +1,91 @@
+// Where the entries of an edge stand in the book.
+ghost use mathlib.Core.Path.{_≡_};
+ghost use Prim.Native.Nat.{_+_, _-_, _^_, _≤_, _<_};
+ghost use lib.ListN.{length};
+ghost use Rattle.spec.specs.declared.Verdict.the-variants.{Accepted};
+ghost use Rattle.spec.specs.Limits.{entrySize, maxEntries, maxPeers};
+ghost use Rattle.spec.specs.Book.{verdict, macAt};
+ghost use Rattle.spec.specs.Assembly.{isPeerHop, segmentOf};
+ghost use Rattle.path.specs.Usable.{Ready, Usable};
+ghost use Rattle.path.specs.Places.{linkOffset, isLeft, Here, entryFrom};
+use spec::AsEntry;
+use spec::Edge;
+use spec::Limits;
+use spec::PeerEntry;
+
+pub const PLACES: usize = Limits::SEGMENTS * Limits::ENTRIES;
+
+// How many entries the edge's segment has.
+pub(crate) fn entry_count(book: &[u8], e: Edge) -> usize
+    requires { ⌜ verdict (now book) ≡ Accepted ⌝ }
+    requires { ⌜ Usable (now book) e ⌝ }
+    ensures { λ r. ⌜ (r ≡ length (segmentOf (now (book .entry)) e .entries)) × (r ≤ maxEntries) × (e .shortcut < r) ⌝ }
+{
+    let head = segment::head(book, e.position);
+    head.entries as usize
+}
+
+// The entry of hop j, of n entries.
+pub(crate) fn entry_of(e: Edge, n: usize, j: usize) -> usize
+    requires { ⌜ n ≤ maxEntries ⌝ }
+    requires { ⌜ e .shortcut + j < n ⌝ }
+    ensures { λ r. ⌜ (r ≡ entryFrom e n j) × (r < n) ⌝ }
+{
+    if e.construction {
+        return (e.shortcut as usize) + j;
+    }
+    n - 1 - j
+}
+
+// Where entry m of the edge's segment stands.
+pub(crate) fn offset(book: &[u8], table: &[u16; PLACES], e: Edge, m: usize) -> usize
+    requires { ⌜ Ready (now book) (now table) ⌝ }
+    requires { ⌜ Usable (now book) e ⌝ }
+    requires { ⌜ m < length (segmentOf (now book) e .entries) ⌝ }
+    ensures { λ r. ⌜ Here (now (book .entry)) e m r × (r < 2 ^ 16) ⌝ }
+{
+    let row = Limits::ENTRIES * (e.position as usize);
+    table[row + m] as usize
+}
+
+// Where the edge's peer stands, after its entry.
+pub(crate) fn link_offset(e: Edge, at: usize) -> usize
+    requires { ⌜ at < 2 ^ 32 ⌝ }
+    requires { ⌜ 0 < e .peer ⌝ }
+    ensures { λ r. ⌜ (r ≡ linkOffset e at) × (r < 2 ^ 33) ⌝ }
+{
+    at + AsEntry::SIZE + PeerEntry::SIZE * ((e.peer - 1) as usize)
+}
+
+// The hop at entry m is the peer's.
+pub(crate) fn is_peer_hop(e: Edge, m: usize) -> bool
+    ensures { λ r. ⌜ r ≡ isPeerHop e m ⌝ }
+{
+    if m == (e.shortcut as usize) {
+        return 0 < e.peer;
+    }
+    false
+}
+
+// Entry m is the shortcut, above the segment's first entry: there the path leaves the segment, or comes to it.
+pub(crate) fn is_left(e: Edge, m: usize) -> bool
+    ensures { λ r. ⌜ r ≡ isLeft e m ⌝ }
+{
+    if m == (e.shortcut as usize) {
+        return 0 < e.shortcut;
+    }
+    false
+}
+
+// An entry's MAC.
+pub(crate) fn mac(book: &[u8], at: usize) -> [u8; 6]
+    ensures { λ r. ⌜ r ≡ macAt (now (book .entry)) (at + 19) ⌝ }
+{
+    let b0 = octets::byte_past(book, at, 19);
+    let b1 = octets::byte_past(book, at, 20);
+    let b2 = octets::byte_past(book, at, 21);
+    let b3 = octets::byte_past(book, at, 22);
+    let b4 = octets::byte_past(book, at, 23);
+    let b5 = octets::byte_past(book, at, 24);
+    [b0, b1, b2, b3, b4, b5]
+}
