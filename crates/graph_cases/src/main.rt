@@ -153,7 +153,13 @@ fn longest(out: &mut [u8]) {
         i += 1;
     }
     show(b"16 entries of 4 peers", X + 15, X, &book, out);
-    show(b"and to the entry below the leaf", X + 15, X + 14, &book, out);
+    show(
+        b"and to the entry below the leaf",
+        X + 15,
+        X + 14,
+        &book,
+        out,
+    );
 }
 
 fn empty(out: &mut [u8]) {

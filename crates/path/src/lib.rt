@@ -32,7 +32,12 @@ pub enum Part {
 }
 
 // The path of a chain, in `out`: its record, or zeros where it is Loop or Bare.
-pub(crate) fn build(book: &[u8], table: &[u16; places::PLACES], chain: Chain, out: &mut [u8]) -> PathAnswer
+pub(crate) fn build(
+    book: &[u8],
+    table: &[u16; places::PLACES],
+    chain: Chain,
+    out: &mut [u8],
+) -> PathAnswer
     requires { ⌜ Ready (now book) (now table) ⌝ }
     requires { ⌜ UsableChain (now book) chain ⌝ }
     requires { ⌜ pathSize ≤ length (now out) ⌝ }
