@@ -6,3 +6,5 @@ pub mod Link
 pub mod Prepared
 pub mod Search
 pub mod Pushed
+pub mod Identity
+pub mod Recorded

@@ -27,6 +27,16 @@ pub enum Found {
     Nothing,
 }
 
+// The chain that a record is of, its edges in order: a refused book has none, and a stranger's record is of
+// none.
+pub enum Chain {
+    Refused(Refusal),
+    Stranger,
+    One(Edge),
+    Two(Edge, Edge),
+    Three(Edge, Edge, Edge),
+}
+
 // How many solutions fit in so many bytes.
 fn slots_of(bytes: usize) -> usize
     ensures { λ r. ⌜ r ≡ slots bytes ⌝ }

@@ -1,0 +1,48 @@
+-- An edge by its identity: the four bytes that a record has for it.
+-- Assumes nothing.
+use Prim.Native.Nat.{ℕ, _-_}
+use mathlib.Core.Bool.{Bool, _&&_}
+use mathlib.Core.List.{List}
+use lib.Dec.{eqb}
+use Rattle.spec.specs.declared.Vertex.{Vertex}
+use Rattle.spec.specs.declared.Vertex.the-variants.{AS, Peering}
+use Rattle.spec.specs.declared.Edge.{Edge}
+use Rattle.spec.specs.declared.SolutionEdge.{SolutionEdge}
+use Rattle.spec.specs.Basics.{if_then_else_, filter}
+use Rattle.spec.specs.Book.{Segment}
+use Rattle.spec.specs.Edges.{asOf, leafAs, peerOf, sameBool, storedOf, storedEdges}
+use Rattle.spec.specs.Order.{solutionEdge}
+use Rattle.graph.specs.Lookup.{between}
+use Rattle.graph.specs.Leaving.{linkOf}
+
+unfoldable pub sameIdentity : SolutionEdge → SolutionEdge → Bool
+sameIdentity x y =
+    eqb (x .position) (y .position) && eqb (x .shortcut) (y .shortcut) && eqb (x .peer) (y .peer) && sameBool (x .construction) (y .construction)
+
+unfoldable pub hasIdentity : SolutionEdge → Edge → Bool
+hasIdentity id e = sameIdentity (solutionEdge e) id
+
+-- the stored edges of a segment with an identity: at most one
+unfoldable pub identified : Segment → SolutionEdge → List Edge
+identified seg id = filter (hasIdentity id) (storedOf seg)
+
+-- those of a book
+unfoldable pub identifiedIn : List ℕ → SolutionEdge → List Edge
+identifiedIn b id = filter (hasIdentity id) (storedEdges b)
+
+-- ---- the ends that only an edge with the identity can have
+
+-- the peering end of peer p of entry i, from the other side
+unfoldable pub farLinkOf : Segment → ℕ → ℕ → Vertex
+farLinkOf seg i p = Peering (peerOf seg i p .peer) (peerOf seg i p .interface) (asOf seg i) (peerOf seg i p .hop .ingress)
+
+-- the end that is not the leaf
+unfoldable pub endNamed : Segment → SolutionEdge → Vertex
+endNamed seg id =
+    if eqb (id .peer) 0 then AS (asOf seg (id .shortcut))
+    else if id .construction then farLinkOf seg (id .shortcut) (id .peer - 1)
+    else linkOf seg (id .shortcut) (id .peer - 1)
+
+unfoldable pub betweenNamed : Segment → SolutionEdge → List Edge
+betweenNamed seg id =
+    if id .construction then between seg (endNamed seg id) (AS (leafAs seg)) else between seg (AS (leafAs seg)) (endNamed seg id)
