@@ -1,7 +1,7 @@
 -- An edge by its identity: the four bytes that a record has for it.
 -- Assumes nothing.
 use Prim.Native.Nat.{ℕ, _-_}
-use mathlib.Core.Bool.{Bool, _&&_}
+use mathlib.Core.Bool.{Bool, _&&_, not}
 use mathlib.Core.List.{List, []}
 use lib.Dec.{ltb, eqb}
 use Rattle.spec.specs.declared.Vertex.{Vertex}
@@ -36,21 +36,20 @@ identifiedIn b id = filter (hasIdentity id) (storedEdges b)
 unfoldable pub farLinkOf : Segment → ℕ → ℕ → Vertex
 farLinkOf seg i p = Peering (peerOf seg i p .peer) (peerOf seg i p .interface) (asOf seg i) (peerOf seg i p .hop .ingress)
 
--- between the leaf and the AS of entry i
+-- from the AS of entry i to the leaf, or back
 unfoldable pub asNamed : Segment → ℕ → Bool → List Edge
 asNamed seg i construction =
     if construction then between seg (AS (asOf seg i)) (AS (leafAs seg)) else between seg (AS (leafAs seg)) (AS (asOf seg i))
 
--- between the leaf and peer p of entry i
+-- from the other side of peer p of entry i to the leaf, or from the leaf to the peer
 unfoldable pub peerNamed : Segment → ℕ → ℕ → Bool → List Edge
 peerNamed seg i p construction = if construction then between seg (farLinkOf seg i p) (AS (leafAs seg)) else peerUp seg i p
 
--- at most one
+-- of an identity: at most one
 unfoldable pub named : Segment → SolutionEdge → List Edge
 named seg id =
-    if ltb (id .shortcut) (entryCount seg) then
-    if eqb (id .peer) 0 then asNamed seg (id .shortcut) (id .construction)
+    if not (ltb (id .shortcut) (entryCount seg)) then []
+    else if eqb (id .peer) 0 then asNamed seg (id .shortcut) (id .construction)
     else if seg .core then []
     else if ltb (peerCountOf seg (id .shortcut)) (id .peer) then []
     else peerNamed seg (id .shortcut) (id .peer - 1) (id .construction)
-    else []

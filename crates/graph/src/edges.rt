@@ -587,10 +587,13 @@ fn same_identity(x: SolutionEdge, y: SolutionEdge) -> bool
     if x.peer != y.peer {
         return false;
     }
-    x.construction == y.construction
+    if x.construction {
+        return y.construction;
+    }
+    !y.construction
 }
 
-// What is stored between the leaf and the AS of entry i.
+// What is stored from the AS of entry i to the leaf, or from the leaf to the AS.
 fn as_named(book: &[u8], table: &[u16; PLACES], k: u8, i: u8, construction: bool) -> Found
     requires { ⌜ Ready (now book) (now table) ⌝ }
     requires { ⌜ k < segmentCount (now book) ⌝ }
@@ -605,11 +608,11 @@ fn as_named(book: &[u8], table: &[u16; PLACES], k: u8, i: u8, construction: bool
     between(book, table, k, Vertex::AS(leaf), here)
 }
 
-// From the other side of peer p of entry i to the leaf.
-fn from_far(book: &[u8], table: &[u16; PLACES], k: u8, link: Link, leaf: IsdAsn) -> Found
+// From the other side of a link to an AS.
+fn from_far(book: &[u8], table: &[u16; PLACES], k: u8, link: Link, w: IsdAsn) -> Found
     requires { ⌜ Ready (now book) (now table) ⌝ }
     requires { ⌜ k < segmentCount (now book) ⌝ }
-    ensures { λ r. ⌜ foundEdges r ≡ between (segmentAt (now (book .entry)) k) (farEndOf link) (AS leaf) ⌝ }
+    ensures { λ r. ⌜ foundEdges r ≡ between (segmentAt (now (book .entry)) k) (farEndOf link) (AS w) ⌝ }
 {
     let far = link.peer;
     let near = link.local;
@@ -619,10 +622,10 @@ fn from_far(book: &[u8], table: &[u16; PLACES], k: u8, link: Link, leaf: IsdAsn)
         peer_ia: near,
         peer_ifid: link.ingress,
     };
-    between(book, table, k, v, leaf)
+    between(book, table, k, v, w)
 }
 
-// What is stored between the leaf and peer p of entry i.
+// What is stored from the other side of peer p of entry i to the leaf, or from the leaf to the peer.
 fn peer_named(book: &[u8], table: &[u16; PLACES], k: u8, i: u8, p: u8, construction: bool) -> Found
     requires { ⌜ Ready (now book) (now table) ⌝ }
     requires { ⌜ k < segmentCount (now book) ⌝ }
@@ -662,7 +665,7 @@ fn named(book: &[u8], table: &[u16; PLACES], id: SolutionEdge) -> Found
     peer_named(book, table, k, i, q - 1, construction)
 }
 
-// The stored edge of a segment that has an identity.
+// The stored edge that has an identity. Its ends follow from the identity, so that one look-up finds it.
 pub(crate) fn stored_edge(book: &[u8], table: &[u16; PLACES], id: SolutionEdge) -> Found
     requires { ⌜ Ready (now book) (now table) ⌝ }
     requires { ⌜ id .position < segmentCount (now book) ⌝ }
