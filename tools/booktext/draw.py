@@ -1,0 +1,2 @@
+SUFFIXES=(".svg",".png",".pdf",".dot")
+MOST=8
