@@ -15,7 +15,7 @@ MOST = 8
 MOST_SEGMENTS = 24
 BADGE, BADGES = 16, 4  # size of a path's number at a link, and how many stand in a row
 
-INK, QUIET, FAINT, LINE = "#1b2733", "#5b6b7a", "#aab4be", "#c3ccd4"
+INK, QUIET, FAINT, LINE, END = "#1b2733", "#5b6b7a", "#aab4be", "#c3ccd4", "#9a6700"
 CORE_FILL, CORE_EDGE, AS_FILL, PORT_FILL, END_FILL = "#eaf1f8", "#b9cde0", "#ffffff", "#eef1f4", "#fff3d6"
 FONT = "Helvetica,Arial,sans-serif"
 
@@ -33,14 +33,21 @@ class Link:
 
 
 class Picture:
-    def __init__(self, segments, source, destination, solutions, names, wanted=None, title=None):
+    """What is to be drawn; with used, only the ASes and links that the drawn paths pass, and the segments with such links."""
+
+    def __init__(self, segments, source, destination, solutions, names, wanted=None, title=None, used=False):
         self.segments, self.source, self.destination, self.solutions, self.names = segments, source, destination, solutions, names
         self.title = title or f"{self.name(source)} to {self.name(destination)}"
         self.drawn = chosen(solutions, wanted)
         self.colours = {s.number: COLOURS[k] for k, s in enumerate(self.drawn)}
         self.links = self.found_links()
-        self.ases = list(dict.fromkeys([e.isd_as for s in segments for e in s.entries]
-                                       + [a for link in self.links for a, _ in (link.first, link.second)] + [source, destination]))
+        ases = [e.isd_as for s in segments for e in s.entries]
+        self.known = set(ases)
+        self.shown = list(enumerate(segments))
+        if used:
+            self.links, ases = [link for link in self.links if link.paths], []
+            self.shown = [(k, s) for k, s in self.shown if any(k in link.segments for link in self.links)]
+        self.ases = list(dict.fromkeys(ases + [a for link in self.links for a, _ in (link.first, link.second)] + [source, destination]))
         self.core = {e.isd_as for s in segments if s.core for e in s.entries} | {s.entries[0].isd_as for s in segments if s.entries}
         self.level = self.levels()
 
@@ -110,6 +117,10 @@ def chosen(solutions, wanted):
 
 def text(words):
     return html.escape(str(words), quote=True)
+
+
+def quoted(words):
+    return '"' + text(words).replace("\\", "\\\\") + '"'
 
 
 def font(words, size=None, colour=None, bold=False):
@@ -213,9 +224,11 @@ def as_box(picture, a):
         lines.append(font(picture.names[a], 12, INK))
     ends = [word for word, end in (("source", picture.source), ("destination", picture.destination)) if a == end]
     if ends:
-        lines.append(font(" and ".join(ends), 11, "#9a6700", bold=True))
+        lines.append(font(" and ".join(ends), 11, END, bold=True))
+    if a not in picture.known:
+        lines.append(font("in no segment", 11, QUIET))
     fill = END_FILL if ends else AS_FILL
-    edge = "#9a6700" if ends else INK
+    edge = END if ends else INK
     width = 3 if ends else 2 if a in picture.core else 1
     return f'<TD BORDER="{width}" COLOR="{edge}" BGCOLOR="{fill}" STYLE="ROUNDED" CELLPADDING="8">{"<BR/>".join(lines)}</TD>'
 
@@ -239,7 +252,7 @@ def link_line(picture, sides, across, k, link):
     attributes = {
         "color": f'"{colour}"', "penwidth": "3.2" if link.paths else "1.6",
         "style": "dashed" if link.kind == PEERING else "solid", "weight": "2" if link.paths else "1",
-        "tooltip": f'"{isd_as.written(a)}#{i} to {isd_as.written(b)}#{j}: {link.kind} link, segments {", ".join(map(str, link.segments)) or "none"}"',
+        "tooltip": quoted(f"{isd_as.written(a)}#{i} to {isd_as.written(b)}#{j}: {link.kind} link, segments {', '.join(map(str, link.segments)) or 'none'}"),
     }
     ends = [f"{node(a)}:{port(i, k)}:{COMPASS[sides.side[k, 0]]}", f"{node(b)}:{port(j, k)}:{COMPASS[sides.side[k, 1]]}"]
     step = picture.level[b] - picture.level[a]
@@ -310,9 +323,9 @@ def summary(picture):
 def segment_rows(picture):
     rows = "<TR>" + cells([["segment"]], QUIET, 11) + cells([["kind"], ["id"]], QUIET, 11, span=2) + \
            cells([["issued (UTC)"], "timestamp", ["ASes, in construction direction"]], QUIET, 11) + "</TR>"
-    for position, s in enumerate(picture.segments[:MOST_SEGMENTS]):
+    for position, s in picture.shown[:MOST_SEGMENTS]:
         rows += "<TR>" + cells([[position]]) + cells([["core" if s.core else "non-core"], [f"{s.id:04x}"]], span=2) + \
-                cells([[times.written(s.timestamp)], s.timestamp, in_lines([isd_as.written(e.isd_as) for e in s.entries], 100)]) + "</TR>"
+                cells([[times.written(s.timestamp)], s.timestamp, in_lines([isd_as.written(e.isd_as) for e in s.entries] or ["none"], 100)]) + "</TR>"
     return rows
 
 
@@ -325,10 +338,10 @@ def legend(picture):
     if picture.drawn:
         parts.append("<HR/>" + path_rows(picture))
     parts.append("<HR/>" + wide("Solid lines join core ASes, or parent and child; dashed lines are peering links; the boxes at their ends are interface ids."))
-    if picture.segments:
+    if picture.shown:
         parts.append("<HR/>" + segment_rows(picture))
-    if len(picture.segments) > MOST_SEGMENTS:
-        parts.append(wide(f"and {len(picture.segments) - MOST_SEGMENTS} more segments"))
+    if len(picture.shown) > MOST_SEGMENTS:
+        parts.append(wide(f"and {counted(len(picture.shown) - MOST_SEGMENTS, 'more segment', 'more segments')}"))
     return f'<TABLE BORDER="0" CELLBORDER="0" CELLSPACING="2" CELLPADDING="3">{"".join(parts)}</TABLE>'
 
 
@@ -352,7 +365,7 @@ def level_text(picture, sides, across, forced, level, ases):
     out = [f"  level_{level} [shape=plaintext label=<{font(word, 12, QUIET)}>]\n"]
     if level == 0:
         out.append(f'  subgraph cluster_core {{ style="rounded,filled" fillcolor="{CORE_FILL}" color="{CORE_EDGE}" margin=16 label=""\n')
-    out += [f'  {node(a)} [label=<{as_label(picture, sides, a)}> tooltip="{text(picture.name(a))}"]\n' for a in ases]
+    out += [f'  {node(a)} [label=<{as_label(picture, sides, a)}> tooltip={quoted(picture.name(a))}]\n' for a in ases]
     out.append(in_row([node(a) for a in ases], forced))
     out += [link_line(picture, sides, across, k, link) for k, link in enumerate(picture.links)
             if picture.level[link.first[0]] == picture.level[link.second[0]] == level]

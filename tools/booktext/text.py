@@ -175,11 +175,14 @@ def parse(data, name="<text>"):
 def names_in(data, name="<names>"):
     """Names for ASes: lines of an ISD-AS and the words to show for it."""
     found = {}
-    for number, words in lines_of(data, name):
+    for number, (word, *rest) in lines_of(data, name):
         try:
-            found[isd_as.parse(words[0])] = " ".join(words[1:])
+            known = isd_as.parse(word)
+            if not rest or not "".join(rest).isprintable():
+                raise ValueError(f"{word} without a name that can be shown")
+            if known in found:
+                raise ValueError(f"{word} has a name already")
+            found[known] = " ".join(rest)
         except ValueError as wrong:
             raise BookError(f"{name}:{number}: {wrong}") from None
-        if len(words) == 1:
-            raise BookError(f"{name}:{number}: {words[0]} without a name")
     return found
