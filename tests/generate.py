@@ -31,6 +31,9 @@ class Maker:
     def interface(self):
         return 0 if self.r.random() < self.zero else self.r.choice([1, 2, 3, 65535])
 
+    def mac(self):
+        return self.r.getrandbits(48).to_bytes(6, "big")
+
     def mtu(self, most):
         return self.r.choice([0, 1280, 1400, 1500, 9000, most, self.r.randint(0, most)])
 
@@ -38,11 +41,11 @@ class Maker:
         return (self.r.choice([0, 1000000, 1767247200, 2**32 - 1]), self.r.randrange(65536), entries)
 
     def entry(self, isd_as, ingress, egress, peers=()):
-        fields = (isd_as, self.mtu(2**32 - 1), self.mtu(65535), ingress, egress, self.r.choice([0, 63, 255]), self.r.randbytes(6))
+        fields = (isd_as, self.mtu(2**32 - 1), self.mtu(65535), ingress, egress, self.r.choice([0, 63, 255]), self.mac())
         return fields, list(peers)
 
     def peer(self, isd_as, interface, ingress, egress):
-        return (isd_as, interface, self.mtu(65535), self.r.choice([0, 63, 255]), ingress, egress, self.r.randbytes(6))
+        return (isd_as, interface, self.mtu(65535), self.r.choice([0, 63, 255]), ingress, egress, self.mac())
 
     def soup(self, segments, most):
         """Any ASes in any order, repeats and equal segments among them."""
