@@ -22,7 +22,8 @@ sys.path[:0] = [str(ROOT / "tools"), str(HERE)]
 
 import generate
 import model
-from booktext import BookError, draw, isd_as, layout, notes, printed, text, times
+from booktext import BookError, dot, draw, isd_as, layout, notes, printed, text, times
+from booktext.picture import COLOURS, Picture
 
 BOOK = ROOT / "tools" / "book"
 MODEL = HERE / "model.py"
@@ -128,7 +129,7 @@ class Names(unittest.TestCase):
 
 class RoundTrip(unittest.TestCase):
     def test_books(self):
-        for _, _, data in generate.cases("round", 300):
+        for _, _, data in generate.cases("round", 200):
             words = text.written(layout.read(data))
             self.assertEqual(layout.write(text.parse(words.encode())), data)
             self.assertEqual(text.written(text.parse(words.encode())), words)
@@ -367,10 +368,10 @@ class Drawing(unittest.TestCase):
     def picture(self, name="house", **options):
         source, destination = map(isd_as.parse, EXAMPLES[name])
         data = (ROOT / "examples" / f"{name}.book").read_bytes()
-        return draw.Picture(layout.read(data), source, destination, printed.parse(model.printed(asked(source, destination, data))), {}, **options)
+        return Picture(layout.read(data), source, destination, printed.parse(model.printed(asked(source, destination, data))), {}, **options)
 
     def dot(self, picture):
-        return draw.dot_text(picture, {a: k for k, a in enumerate(picture.ases)}, forced=True)
+        return dot.dot_text(picture, {a: k for k, a in enumerate(picture.ases)}, forced=True)
 
     def test_levels(self):
         level = {isd_as.written(a): n for a, n in self.picture().level.items()}
@@ -388,27 +389,40 @@ class Drawing(unittest.TestCase):
     def test_text(self):
         words = self.dot(self.picture())
         for expected in ("5 solutions, 5 paths", "1767264000", "2026-01-01T10:40:00Z", "1-ff00:0:131 2&gt;2 1-ff00:0:121 3&gt;3 1-ff00:0:112 2&gt;1 1-ff00:0:141",
-                         "style=dashed", "destination", *draw.COLOURS[:5]):
+                         "style=dashed", "destination", *COLOURS[:5]):
             self.assertIn(expected, words)
-        self.assertNotIn(draw.COLOURS[5], words)
+        self.assertNotIn(COLOURS[5], words)
 
     def test_some_paths(self):
         picture = self.picture(wanted={2, 5})
         self.assertEqual([s.number for s in picture.drawn], [2, 5])
         self.assertIn("5 solutions, 5 paths, 2 drawn", self.dot(picture))
         self.assertEqual(len(self.picture(wanted={1}, used=True).links), 3)
+        self.assertEqual(self.picture(wanted={1}, used=True).level[isd_as.parse("1-ff00:0:131")], 2)
         with self.assertRaisesRegex(BookError, "there is no solution 6: the list has 5"):
             self.picture(wanted={6})
         with self.assertRaisesRegex(BookError, "11 paths are too many"):
             self.picture(wanted=set(range(1, 12)))
 
+    def test_unlisted(self):
+        # The middle AS shows no interface, so that the path leaps over it.
+        words = "non-core timestamp 0 id 0000\n" + "".join(
+            f"entry 1-{k} mtu 1500 ingress-mtu 0 ingress {i} egress {e} units 0 mac 000000000000\n" for k, i, e in ((1, 0, 5), (2, 0, 0), (3, 7, 0)))
+        segments = text.parse(words.encode())
+        source, destination = isd_as.parse("1-3"), isd_as.parse("1-1")
+        answer = printed.parse(model.printed(asked(source, destination, layout.write(segments))))
+        picture = Picture(segments, source, destination, answer, {})
+        self.assertEqual([link.kind for link in picture.links if link.paths], ["unlisted"])
+        self.assertEqual([picture.level[isd_as.parse(f"1-{k}")] for k in (1, 2, 3)], [0, 1, 2])
+        self.assertIn("style=dotted", self.dot(picture))
+
     def test_generated(self):
         for source, destination, data in generate.cases("draw", 60):
             answer = printed.parse(model.printed(asked(source, destination, data)))
-            picture = draw.Picture(layout.read(data), source, destination, answer, {source: 'a "name" <b> & \\'})
+            picture = Picture(layout.read(data), source, destination, answer, {source: 'a "name" <b> & \\'})
             words = self.dot(picture)
             for a in picture.ases:
-                self.assertIn(f"{draw.node(a)} [label=", words)
+                self.assertIn(f"{dot.node(a)} [label=", words)
             for s in picture.drawn:
                 self.assertIn(picture.colours[s.number], words)
 
