@@ -1,5 +1,6 @@
 #!/usr/bin/env python3
 """Tests of tools/book, of the examples and of the model that stands in for the program. Run: python3 tests/test_book.py"""
+import html
 import importlib.util
 import io
 import os
@@ -135,6 +136,18 @@ class RoundTrip(unittest.TestCase):
             self.assertEqual(text.written(text.parse(words.encode())), words)
             noted = text.written(layout.read(data), notes=True)
             self.assertEqual(layout.write(text.parse(noted.encode())), data)
+
+    def test_fields(self):
+        # Against the model's own reading of the bytes.
+        for _, _, data in generate.cases("fields", 60):
+            segments = layout.read(data)
+            for s in model.segments(data):
+                found = segments[s.position]
+                self.assertEqual((found.core, found.timestamp, found.id), (s.core, s.timestamp, s.id))
+                self.assertEqual([(e.isd_as, e.mtu, e.ingress_mtu, e.units, e.ingress, e.egress, e.mac.to_bytes(6, "big")) for e in found.entries],
+                                 [(e.isd_as, e.mtu, e.ingress_mtu, *e.hop) for e in s.entries])
+                self.assertEqual([(p.isd_as, p.interface, p.mtu, p.units, p.ingress, p.egress, p.mac.to_bytes(6, "big")) for e in found.entries for p in e.peers],
+                                 [(p.isd_as, p.interface, p.mtu, *p.hop) for e in s.entries for p in e.peers])
 
     def test_limits(self):
         data = generate.full(random.Random("full"))
@@ -521,6 +534,12 @@ class Examples(unittest.TestCase):
     def test_worked(self):
         self.assertEqual((ROOT / "examples" / "worked.book").read_bytes(), WORKED_INPUT[16:])
         self.assertEqual((ROOT / "examples" / "worked.list").read_text(), WORKED_LIST)
+
+    def test_picture(self):
+        words = html.unescape((ROOT / "examples" / "house.svg").read_text()).replace("\xa0", " ")
+        for s in printed.parse((ROOT / "examples" / "house.list").read_text()):
+            for expected in (s.mtu, s.expiry, " ".join(dot.route(s))):
+                self.assertIn(f">{expected}<", words)
 
     @unittest.skipUnless(os.access(LIST, os.X_OK), "the program list is not built")
     def test_program(self):
