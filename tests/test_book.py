@@ -334,6 +334,9 @@ if 0001ff0000000110 5      1-ff00:0:110#5
             self.assertEqual(len(answer.splitlines()), len(shown.splitlines()))
             for plain, named in zip(answer.splitlines(), shown.splitlines()):
                 self.assertTrue(named.startswith(plain))
+                if plain.startswith("info "):
+                    flags = int(plain.split()[1])
+                    self.assertEqual(("in construction direction" in named, "peering" in named), (flags % 2 == 1, flags >= 2))
                 if plain.startswith("if "):
                     self.assertEqual(isd_as.parse(named.split()[3].split("#")[0]), int(plain.split()[1], 16))
 
