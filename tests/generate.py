@@ -1,0 +1,136 @@
+"""Books for tests, from a seed: networks as carriers build them, soups of any fields, books at the limits, damaged bytes.
+
+    generate.cases(seed, count) gives (source, destination, book); the same seed gives the same books.
+"""
+import random
+import struct
+
+
+def packed(cores, others):
+    """Bytes of a book: a segment is (timestamp, id, entries), an entry (7 fields, peers), a peer 7 fields."""
+    segments = cores + others
+    bodies = []
+    for _, _, entries in segments:
+        body = b""
+        for (isd_as, mtu, ingress_mtu, ingress, egress, units, mac), peers in entries:
+            body += struct.pack(">QIHHHB6sB", isd_as, mtu, ingress_mtu, ingress, egress, units, mac, len(peers))
+            body += b"".join(struct.pack(">QHHBHH6s", *peer) for peer in peers)
+        bodies.append(body)
+    heads = [struct.pack(">IHHH", ts, ident, len(entries), len(body)) for (ts, ident, entries), body in zip(segments, bodies)]
+    return struct.pack(">HHI", len(cores), len(others), sum(map(len, bodies))) + b"".join(heads + bodies)
+
+
+class Maker:
+    def __init__(self, rng):
+        self.r = rng
+        base = rng.choice([0x0001FF0000000110, 0x000200000000FBF0, 0xFFFFFFFFFFFFFF00])
+        self.ases = [base + k for k in range(rng.randint(3, 12))]
+        self.zero = rng.choice([0, 0, 0.1, 0.5])
+        self.links = {}
+
+    def interface(self):
+        return 0 if self.r.random() < self.zero else self.r.choice([1, 2, 3, 65535])
+
+    def mac(self):
+        return self.r.getrandbits(48).to_bytes(6, "big")
+
+    def mtu(self, most):
+        return self.r.choice([0, 1280, 1400, 1500, 9000, most, self.r.randint(0, most)])
+
+    def segment(self, entries):
+        return (self.r.choice([0, 1000000, 1767247200, 2**32 - 1]), self.r.randrange(65536), entries)
+
+    def entry(self, isd_as, ingress, egress, peers=()):
+        fields = (isd_as, self.mtu(2**32 - 1), self.mtu(65535), ingress, egress, self.r.choice([0, 63, 255]), self.mac())
+        return fields, list(peers)
+
+    def peer(self, isd_as, interface, ingress, egress):
+        return (isd_as, interface, self.mtu(65535), self.r.choice([0, 63, 255]), ingress, egress, self.mac())
+
+    def soup(self, segments, most):
+        """Any ASes in any order, repeats and equal segments among them."""
+        made = []
+        for _ in range(segments):
+            path = [self.r.choice(self.ases) for _ in range(self.r.randint(0, most))]
+            entries = [self.entry(a, self.interface(), self.interface(),
+                                  [self.peer(self.r.choice(self.ases), self.interface(), self.interface(), self.interface())
+                                   for _ in range(self.r.choice([0, 0, 0, 1, 4]))]) for a in path]
+            made.append(self.r.choice(made) if made and self.r.random() < 0.1 else self.segment(entries))
+        cores = self.r.randint(0, segments)
+        return made[:cores], made[cores:]
+
+    def link(self, a, b):
+        """The interface ids at both ends of the link, the same whenever it is asked for."""
+        if (a, b) not in self.links:
+            ends = len(self.links) + 1, len(self.links) + 101
+            self.links[a, b], self.links[b, a] = ends, ends[::-1]
+        return self.links[a, b]
+
+    def walk(self, path, peers=()):
+        entries = []
+        for k, a in enumerate(path):
+            ingress = self.link(path[k - 1], a)[1] if k else 0
+            egress = self.link(a, path[k + 1])[0] if k + 1 < len(path) else 0
+            ends = [b if a == x else x for x, b in peers if a in (x, b)][:4]
+            entries.append(self.entry(a, ingress, egress, [self.peer(b, self.link(a, b)[1], self.link(a, b)[0], egress) for b in ends]))
+        return self.segment(entries)
+
+    def network(self):
+        """Cores joined to each other, customers below them, peering links between customers."""
+        core, low = self.ases[:2], self.ases[2:]
+        peers = [tuple(self.r.sample(low, 2)) for _ in range(self.r.randint(0, 3))] if len(low) > 1 else []
+        cores = [self.walk(self.r.sample(core, 2)) for _ in range(self.r.randint(0, 2))]
+        others = []
+        for leaf in low:
+            for _ in range(self.r.randint(1, 2)):
+                between = [a for a in self.r.sample(low, min(len(low), self.r.randint(0, 2))) if a < leaf]
+                others.append(self.walk([self.r.choice(core)] + sorted(between) + [leaf], peers))
+        return cores, others
+
+
+def full(rng):
+    """A book of just 61,440 bytes or a little less, 64 segments."""
+    maker = Maker(rng)
+    made, size = [], 8 + 64 * 10
+    for _ in range(64):
+        entries = []
+        while len(entries) < 16 and size + 26 + 4 * 23 <= 61440:
+            a = rng.choice(maker.ases)
+            entries.append(maker.entry(a, 1, 2, [maker.peer(a, 3, 4, 5)] * 4))
+            size += 26 + 4 * 23
+        made.append(maker.segment(entries))
+    return packed(made[:5], made[5:])
+
+
+def damaged(rng, book):
+    """Bytes changed, cut, added, or a count set past its limit."""
+    book = bytearray(book)
+    kind = rng.randrange(6)
+    if kind == 0:
+        del book[rng.randint(0, len(book)):]
+    elif kind == 1:
+        book += bytes(rng.choice([1, 10, 62000]))
+    elif kind == 2:
+        for _ in range(rng.randint(1, 3)):
+            book[rng.randrange(min(len(book), 40))] = rng.choice([0, 1, 255, rng.randrange(256)])
+    elif kind == 3:
+        for _ in range(rng.randint(1, 9)):
+            book[rng.randrange(len(book))] = rng.randrange(256)
+    elif kind == 4 and len(book) >= 18:
+        book[12 + 2] = 0
+        book[12 + 3] = rng.choice([0, 1, 15, 16, 17])
+    elif kind == 5 and len(book) >= 28:
+        # Two heads exchange a part of their body lengths, so that the sum stays.
+        one, two = book[17], book[27]
+        part = min(rng.randint(0, 30), one, 255 - two)
+        book[17], book[27] = one - part, two + part
+    return bytes(book)
+
+
+def cases(seed, count):
+    for k in range(count):
+        rng = random.Random(f"{seed}/{k}")
+        maker = Maker(rng)
+        cores, others = maker.network() if k % 2 else maker.soup(rng.randint(0, 7), 5)
+        source, destination = rng.sample(maker.ases, 2)
+        yield source, destination, packed(cores, others)

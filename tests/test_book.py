@@ -1,0 +1,567 @@
+#!/usr/bin/env python3
+"""Tests of tools/book, of the examples and of the model that stands in for the program. Run: python3 tests/test_book.py"""
+import html
+import importlib.util
+import io
+import os
+import random
+import shutil
+import struct
+import subprocess
+import sys
+import tempfile
+import unittest
+from collections import Counter
+from importlib.machinery import SourceFileLoader
+from pathlib import Path
+from unittest import mock
+
+HERE = Path(__file__).resolve().parent
+ROOT = HERE.parent
+sys.dont_write_bytecode = True
+sys.path[:0] = [str(ROOT / "tools"), str(HERE)]
+
+import generate
+import model
+from booktext import BookError, dot, draw, isd_as, layout, notes, printed, text, times
+from booktext.picture import COLOURS, Picture
+
+BOOK = ROOT / "tools" / "book"
+MODEL = HERE / "model.py"
+LIST = ROOT / "target" / "bin" / "list"
+
+A, B = 0x0001FF0000000111, 0x0001FF0000000110
+
+# Document 01, "The printed list".
+WORKED_INPUT = bytes.fromhex(
+    "0001ff0000000111" "0001ff0000000110"
+    "0000" "0001" "00000034"
+    "000f4240" "1234" "0002" "0034"
+    "0001ff0000000110" "000005dc" "0000" "0000" "0005" "3f" "010203040506" "00"
+    "0001ff0000000111" "00000578" "0546" "0007" "0000" "3f" "0a0b0c0d0e0f" "00")
+WORKED_LIST = """\
+solutions 1 paths 1
+1 cost 1 segments 1 mtu 1350 expiry 1021600 hops 2
+info 0 1336 1000000
+if 0001ff0000000111 7
+if 0001ff0000000110 5
+"""
+
+EXAMPLES = {"worked": ("1-ff00:0:111", "1-ff00:0:110"), "house": ("1-ff00:0:131", "1-ff00:0:141"), "core": ("1-ff00:0:111", "2-64498")}
+
+ENTRY = "entry 1-ff00:0:110 mtu 1500 ingress-mtu 0 ingress 0 egress 5 units 63 mac 010203040506"
+PEER = "peer 1-ff00:0:112 interface 2 mtu 1400 units 63 ingress 9 egress 5 mac f0f1f2f3f4f5"
+
+
+class Stream(io.TextIOWrapper):
+    """A standard stream held in memory."""
+
+    def __init__(self, data=b""):
+        super().__init__(io.BytesIO(data), encoding="utf-8", write_through=True)
+
+    def value(self):
+        return self.buffer.getvalue()
+
+
+def loaded(path):
+    """A program without the suffix .py, as a module."""
+    loader = SourceFileLoader(path.name, str(path))
+    module = importlib.util.module_from_spec(importlib.util.spec_from_loader(path.name, loader))
+    loader.exec_module(module)
+    return module
+
+
+tool = loaded(BOOK)
+
+
+def book(*args, given=b"", path=None):
+    """tools/book with these arguments: exit status, standard output, standard error."""
+    stdin, stdout, stderr = Stream(given), Stream(), Stream()
+    with mock.patch.multiple(sys, stdin=stdin, stdout=stdout, stderr=stderr), mock.patch.dict(os.environ, {"PATH": path} if path else {}):
+        try:
+            status = tool.main([str(a) for a in args])
+        except SystemExit as end:
+            status = end.code
+    return status, stdout.value(), stderr.value().decode()
+
+
+def alone(*args, given=b""):
+    """The same in a process of its own."""
+    done = subprocess.run([str(BOOK), *map(str, args)], input=given, capture_output=True, check=False)
+    return done.returncode, done.stdout, done.stderr.decode()
+
+
+def asked(source, destination, data):
+    return struct.pack(">QQ", source, destination) + data
+
+
+def numbers(segments):
+    """Bytes of a book with entry and body counts as given: segments are (entry count, body)."""
+    heads = b"".join(struct.pack(">IHHH", 0, 0, count, len(body)) for count, body in segments)
+    bodies = b"".join(body for _, body in segments)
+    return struct.pack(">HHI", 0, len(segments), len(bodies)) + heads + bodies
+
+
+def entry(peers=0, following=b""):
+    return bytes(layout.ENTRY_SIZE - 1) + bytes([peers]) + following
+
+
+class Names(unittest.TestCase):
+    def test_forms(self):
+        for number, written in ((B, "1-ff00:0:110"), (0x000200000000FBF0, "2-64496"), (0, "0-0"), (2**64 - 1, "65535-ffff:ffff:ffff"),
+                                (0x0001000000000000 | 2**32 - 1, "1-4294967295"), (0x0001000000000000 | 2**32, "1-1:0:0")):
+            self.assertEqual(isd_as.written(number), written)
+            self.assertEqual(isd_as.parse(written), number)
+            self.assertEqual(isd_as.parse(f"{number:016x}"), number)
+        self.assertEqual(isd_as.parse("1-FF00:0:110"), B)
+        self.assertEqual(isd_as.parse("1-0:0:110"), 0x0001000000000110)
+
+    def test_wrong(self):
+        for word in ("", "1", "1-", "-1", "1-ff00", "1-ff00:0", "1-ff00:0:0:110", "1-fffff:0:110", "65536-1", "1-4294967296", "0001ff000000110",
+                     "0x01ff0000000110", "1-ff00:0:110#5", "1_ff00:0:110", "１-110"):
+            with self.subTest(word=word), self.assertRaises(ValueError):
+                isd_as.parse(word)
+
+    def test_times(self):
+        self.assertEqual(times.written(0), "1970-01-01T00:00:00Z")
+        self.assertEqual(times.written(2**32 - 1), "2106-02-07T06:28:15Z")
+        self.assertEqual(times.parse("2026-01-01T06:00:00Z"), 1767247200)
+
+
+class RoundTrip(unittest.TestCase):
+    def test_books(self):
+        for _, _, data in generate.cases("round", 200):
+            words = text.written(layout.read(data))
+            self.assertEqual(layout.write(text.parse(words.encode())), data)
+            self.assertEqual(text.written(text.parse(words.encode())), words)
+            noted = text.written(layout.read(data), notes=True)
+            self.assertEqual(layout.write(text.parse(noted.encode())), data)
+
+    def test_fields(self):
+        # Against the model's own reading of the bytes.
+        for _, _, data in generate.cases("fields", 60):
+            segments = layout.read(data)
+            for s in model.segments(data):
+                found = segments[s.position]
+                self.assertEqual((found.core, found.timestamp, found.id), (s.core, s.timestamp, s.id))
+                self.assertEqual([(e.isd_as, e.mtu, e.ingress_mtu, e.units, e.ingress, e.egress, e.mac.to_bytes(6, "big")) for e in found.entries],
+                                 [(e.isd_as, e.mtu, e.ingress_mtu, *e.hop) for e in s.entries])
+                self.assertEqual([(p.isd_as, p.interface, p.mtu, p.units, p.ingress, p.egress, p.mac.to_bytes(6, "big")) for e in found.entries for p in e.peers],
+                                 [(p.isd_as, p.interface, p.mtu, *p.hop) for e in s.entries for p in e.peers])
+
+    def test_limits(self):
+        data = generate.full(random.Random("full"))
+        self.assertGreater(len(data), layout.MAX_BOOK - 118)
+        self.assertEqual(layout.write(text.parse(text.written(layout.read(data)).encode())), data)
+
+    def test_command(self):
+        for run in (book, alone):
+            for _, _, data in generate.cases("command", 2):
+                status, words, _ = run("decode", given=data)
+                self.assertEqual(status, 0)
+                self.assertEqual(run("encode", given=words), (0, data, ""))
+
+    def test_files(self):
+        with tempfile.TemporaryDirectory() as folder:
+            words, data = Path(folder, "x.txt"), Path(folder, "x.book")
+            words.write_text(f"core timestamp 1 id 0002\n  {ENTRY}\n")
+            self.assertEqual(book("encode", words, "-o", data), (0, b"", ""))
+            self.assertEqual(book("decode", data, "-o", Path(folder, "y.txt")), (0, b"", ""))
+            self.assertEqual(Path(folder, "y.txt").read_text(), words.read_text())
+
+    def test_empty(self):
+        self.assertEqual(layout.write(text.parse(b"")), bytes(8))
+        self.assertEqual(text.written(layout.read(bytes(8))), "")
+
+    def test_free_text(self):
+        canonical = f"non-core timestamp 1767247200 id 12ab\n  {ENTRY}\n    {PEER}\n"
+        free = ("# a comment\n\n\tnon-core id 12AB   timestamp 2026-01-01T06:00:00Z # issued\r\n"
+                "entry 0001ff0000000110 mac 010203040506 units 63 egress 5 ingress 0 ingress-mtu 00 mtu 1500\n\n"
+                "      peer 1-ff00:0:112 mac F0F1F2F3F4F5 interface 2 mtu 1400 units 63 ingress 9 egress 5")
+        self.assertEqual(text.written(text.parse(free.encode())), canonical)
+
+
+class TextErrors(unittest.TestCase):
+    def wrong(self, words, message):
+        with self.subTest(message=message):
+            with self.assertRaises(BookError) as found:
+                text.parse(words if isinstance(words, bytes) else words.encode(), "x.txt")
+            self.assertEqual(str(found.exception), f"x.txt:{message}")
+
+    def test_lines(self):
+        head = "# first\ncore timestamp 1 id 0001\n"
+        self.wrong("cores timestamp 1 id 0001", "1: a line begins with core, non-core, entry or peer, not 'cores'")
+        self.wrong(ENTRY, "1: an entry above the first segment")
+        self.wrong(head + PEER, "3: a peer with no entry above it in its segment")
+        self.wrong("non-core timestamp 1 id 0001\n\ncore timestamp 1 id 0001",
+                   "3: a core segment below a non-core one: cores stand first, since positions count them first")
+        self.wrong(head + "entry", "3: entry without its ISD-AS")
+        self.wrong(head + "entry mtu 1500", "3: 'mtu' is no ISD-AS such as 1-ff00:0:110 or 0001ff0000000110")
+        self.wrong("core timestamp 1", "1: core lacks id")
+        self.wrong(head + "entry 1-ff00:0:110 mtu 1500 units 63", "3: entry lacks ingress-mtu, ingress, egress, mac")
+        self.wrong("core timestamp 1 id 0001 timestamp 2", "1: timestamp stands twice")
+        self.wrong("core timestamp 1 id", "1: id without a value")
+        self.wrong(head + ENTRY + " latency 5", "3: entry has no field 'latency', its fields are mtu, ingress-mtu, ingress, egress, units, mac")
+        self.wrong("core timestamp 1 id 0001 \xff".encode("latin-1"), "1: not UTF-8 text")
+
+    def test_numbers(self):
+        head = "core timestamp 1 id 0001\n"
+        self.wrong("core timestamp 4294967296 id 0001", "1: timestamp 4294967296 is above 4294967295")
+        self.wrong("core timestamp -1 id 0001", "1: timestamp is a number in base ten, not '-1'")
+        self.wrong("core timestamp 2026-01-01T id 0001", "1: '2026-01-01T' is no time such as 2026-01-01T06:00:00Z")
+        self.wrong("core timestamp 1969-12-31T23:59:59Z id 0001", "1: timestamp 1969-12-31T23:59:59Z is before 1970")
+        self.wrong("core timestamp 1 id 123", "1: id is written in 4 hex digits, not '123'")
+        self.wrong(head + ENTRY.replace("egress 5", "egress 65536"), "2: egress 65536 is above 65535")
+        self.wrong(head + ENTRY.replace("mtu 1500", "mtu 0x5dc"), "2: mtu is a number in base ten, not '0x5dc'")
+        self.wrong(head + ENTRY.replace("units 63", "units 256"), "2: units 256 is above 255")
+        self.wrong(head + ENTRY.replace("010203040506", "01:02:03:04:05:06"), "2: mac is written in 12 hex digits, not '01:02:03:04:05:06'")
+
+    def test_limits(self):
+        head = "core timestamp 1 id 0001\n"
+        self.wrong(head * 65, "65: more than 64 segments (refusal 4, Crowded)")
+        self.wrong(head + f"{ENTRY}\n" * 17, "18: more than 16 entries in segment 0 (refusal 5, Long)")
+        self.wrong(head + f"{ENTRY}\n" + f"{PEER}\n" * 5, "7: more than 4 peers at entry 0 of segment 0 (refusal 6, Peers)")
+        self.wrong((head + (f"{ENTRY}\n" + f"{PEER}\n" * 4) * 16) * 64,
+                   "2623: the book has 61462 bytes up to here, at most 61440 are taken (refusal 3, Oversize)")
+
+    def test_command(self):
+        for run in (book, alone):
+            self.assertEqual(run("encode", given=b"core timestamp 1\n"), (1, b"", "book: <standard input>:1: core lacks id\n"))
+        status, out, said = book("encode", "/no/such/file")
+        self.assertEqual((status, out, said), (1, b"", "book: /no/such/file: No such file or directory\n"))
+
+
+class Refusals(unittest.TestCase):
+    def refused(self, data, number, place, reason):
+        with self.subTest(reason=reason):
+            found = layout.verdict(data)
+            self.assertEqual((found.number, found.place, found.reason), (number, place, reason))
+            self.assertEqual(model.verdict(data), number)
+
+    def test_each_with_its_place(self):
+        worked = WORKED_INPUT[16:]
+        self.refused(bytes(61441), 3, "", "the book has 61441 bytes, at most 61440 are taken")
+        self.refused(bytes(7), 1, "byte 7", "the book has 7 bytes, its sizes alone take 8")
+        self.refused(b"", 1, "byte 0", "the book has 0 bytes, its sizes alone take 8")
+        self.refused(struct.pack(">HHI", 65, 0, 0), 4, "", "65 core and 0 non-core segments are 65, at most 64 are taken")
+        sum_of = "0 core and 1 non-core segments with bodies of 52 bytes make a book of 70"
+        self.refused(worked[:17], 1, "segment 0 (non-core), byte 17", f"{sum_of}, this one ends at 17, in a head")
+        self.refused(worked[:18], 1, "segment 0 (non-core), entry 0, byte 18", f"{sum_of}, this one ends at 18")
+        self.refused(worked[:69], 1, "segment 0 (non-core), entry 1, byte 69", f"{sum_of}, this one ends at 69")
+        self.refused(worked + b"\0", 2, "byte 70", f"{sum_of}, this one has 71")
+        self.refused(numbers([(1, entry()), (17, entry())]), 5, "segment 1 (non-core), byte 18", "its head counts 17 entries, at most 16 are taken")
+        self.refused(numbers([(2, entry() + entry(5))]), 6, "segment 0 (non-core), entry 1, byte 69", "it counts 5 peers, at most 4 are taken")
+        uneven = bytearray(numbers([(1, entry()), (1, entry())]))
+        uneven[17] -= 1
+        self.refused(bytes(uneven), 7, "byte 4", "the body lengths in the heads sum to 51, the sizes say 52")
+        self.refused(numbers([(2, entry() + bytes(25))]), 7, "segment 0 (non-core), entry 1, byte 44",
+                     "25 bytes left in the body for an entry of 26 (its head counts 2 entries)")
+        self.refused(numbers([(0, b""), (1, entry(2, bytes(45)))]), 7, "segment 1 (non-core), entry 0, byte 54", "45 bytes left in the body for 2 peers of 23")
+        self.refused(numbers([(1, entry() + b"\0")]), 7, "segment 0 (non-core), byte 44", "1 byte left in the body after its 1 entry")
+
+    def test_order(self):
+        # Long at any head before the sum, the sum before any body, bodies by position.
+        long = bytearray(numbers([(1, entry(5)), (17, b"")]))
+        self.assertEqual(layout.verdict(bytes(long)).number, 5)
+        long[4:8] = (0).to_bytes(4, "big")
+        self.assertEqual(layout.verdict(bytes(long)).number, 2)
+        both = numbers([(1, entry() + b"\0"), (1, entry(5))])
+        self.assertEqual(layout.verdict(both).number, 7)
+        self.assertEqual(layout.verdict(struct.pack(">HHI", 64, 1, 2**32 - 1)).number, 4)
+        self.assertEqual(layout.verdict(struct.pack(">HHI", 64, 0, 2**32 - 1)).number, 1)
+
+    def test_at_the_limits(self):
+        self.assertIsNone(layout.verdict(bytes(8)))
+        self.assertIsNone(layout.verdict(numbers([(0, b"")] * 64)))
+        self.assertIsNone(layout.verdict(numbers([(16, entry() * 16)])))
+        self.assertIsNone(layout.verdict(numbers([(1, entry(4, bytes(4 * 23)))])))
+
+    def test_damaged(self):
+        seen = Counter()
+        for k, (_, _, data) in enumerate(generate.cases("damaged", 250)):
+            rng = random.Random(f"damaged/{k}")
+            for _ in range(5):
+                broken = generate.damaged(rng, data)
+                found = layout.verdict(broken)
+                self.assertEqual(found.number if found else 0, model.verdict(broken))
+                if found:
+                    self.assertTrue(str(found).startswith(f"refused {found.number} ({layout.WORDS[found.number]})"))
+                else:
+                    self.assertEqual(layout.write(layout.read(broken)), broken)
+                seen[found.number if found else 0] += 1
+        self.assertEqual(set(seen), set(range(8)))
+
+    def test_command(self):
+        status, out, _ = book("check", given=numbers([(1, entry()), (17, entry())]))
+        self.assertEqual((status, out.decode()),
+                         (1, "refused 5 (Long), at segment 1 (non-core), byte 18: its head counts 17 entries, at most 16 are taken\n"))
+        status, out, said = book("decode", given=bytes(7))
+        self.assertEqual((status, out, said),
+                         (1, b"", "book: <standard input>: refused 1 (Cut), at byte 7: the book has 7 bytes, its sizes alone take 8\n"))
+
+    def test_accepted(self):
+        status, out, _ = book("check", ROOT / "examples" / "house.book")
+        self.assertEqual((status, out.decode()), (0, "accepted: 1 core and 4 non-core segments, 14 entries, 2 peers, 468 of 61440 bytes\n"))
+
+    def test_notes(self):
+        segments = text.parse(f"core timestamp 1 id 0001\n{ENTRY}\n{PEER}\nnon-core timestamp 1 id 0001\n{ENTRY}\n{ENTRY}\n{PEER}\n"
+                              f"non-core timestamp 1 id 0001\n{ENTRY}\n{ENTRY}\n{PEER}\nnon-core timestamp 1 id 0001\n".encode())
+        self.assertEqual(notes.notes(segments), [
+            "segment 0, entry 0: peers of a core segment yield no edges",
+            "segment 1, entry 1: 1-ff00:0:110 stands earlier in the segment",
+            "segment 1, entry 1, peer 0: no segment has the other end of this link, 1-ff00:0:112#2 to 1-ff00:0:110#9",
+            "segment 2 equals segment 1: they count once, as segment 1",
+            "segment 3 has no entries: it yields no edges"])
+
+
+class Listing(unittest.TestCase):
+    def test_names(self):
+        status, out, _ = book("list", "--program", MODEL, "1-ff00:0:111", "0001ff0000000110", ROOT / "examples" / "worked.book")
+        self.assertEqual((status, out.decode()), (0, """\
+solutions 1 paths 1
+1 cost 1 segments 1 mtu 1350 expiry 1021600 hops 2  expires 1970-01-12T19:46:40Z
+info 0 1336 1000000        against construction, issued 1970-01-12T13:46:40Z
+if 0001ff0000000111 7      1-ff00:0:111#7
+if 0001ff0000000110 5      1-ff00:0:110#5
+"""))
+
+    def test_generated(self):
+        for source, destination, data in generate.cases("list", 60):
+            answer = model.printed(asked(source, destination, data))
+            found = printed.parse(answer)
+            self.assertEqual(len(found), int(answer.split()[1]))
+            shown = printed.with_names(answer, {source: "the source"})
+            self.assertEqual(len(answer.splitlines()), len(shown.splitlines()))
+            for plain, named in zip(answer.splitlines(), shown.splitlines()):
+                self.assertTrue(named.startswith(plain))
+                if plain.startswith("info "):
+                    flags = int(plain.split()[1])
+                    self.assertEqual(("in construction direction" in named, "peering" in named), (flags % 2 == 1, flags >= 2))
+                if plain.startswith("if "):
+                    self.assertEqual(isd_as.parse(named.split()[3].split("#")[0]), int(plain.split()[1], 16))
+
+    def test_refused(self):
+        status, out, _ = book("list", "--program", MODEL, "1-1", "1-2", given=bytes(7))
+        self.assertEqual((status, out.decode()), (1, "refused 1 (Cut), at byte 7: the book has 7 bytes, its sizes alone take 8\n"))
+        status, out, _ = book("list", "--plain", "--program", MODEL, "1-1", "1-2", given=bytes(7))
+        self.assertEqual((status, out), (1, b"refused 1\n"))
+        self.assertEqual(printed.refusal_words(8, bytes(8)), "refused 8 (Full): more than 4096 solutions")
+
+    def test_program(self):
+        status, _, said = book("list", "--program", "/no/such/list", "1-1", "1-2", given=bytes(8))
+        self.assertEqual((status, said), (1, "book: cannot run /no/such/list: No such file or directory\n"))
+        status, _, said = book("list", "--program", "/bin/false", "1-1", "1-2", given=bytes(8))
+        self.assertEqual((status, said), (1, "book: /bin/false printed no list (exit status 1)\n"))
+        status, _, said = book("list", "--program", "/bin/pwd", "1-1", "1-2", given=bytes(8))
+        self.assertEqual((status, said), (1, "book: the program's output is no printed list\n"))
+        for wrong in ("solutions 1 paths 1\n", "solutions 0 paths 0\nif 0001ff0000000111 7\n", "solutions 1 paths 0\n1 cost 1 segments 1 lost\n"):
+            with self.assertRaises(BookError):
+                printed.parse(wrong)
+
+    def test_program_beside(self):
+        with tempfile.TemporaryDirectory() as folder:
+            tools = Path(folder, "bin")
+            shutil.copytree(ROOT / "tools" / "booktext", tools / "booktext", ignore=shutil.ignore_patterns("__pycache__"))
+            shutil.copy(BOOK, tools / "book")
+            command = [sys.executable, str(tools / "book"), "list", "--plain", "1-1", "1-2"]
+            done = subprocess.run(command, input=bytes(8), capture_output=True, check=False)
+            self.assertEqual(done.returncode, 1)
+            self.assertIn(f"{tools}/list: build it, or give its path with --program", done.stderr.decode())
+            shutil.copy(MODEL, tools / "list")
+            done = subprocess.run(command, input=bytes(8), capture_output=True, check=False)
+            self.assertEqual((done.returncode, done.stdout), (0, b"solutions 0 paths 0\n"))
+
+    def test_usage(self):
+        for args in ((), ("encode", "a", "b"), ("list", "1-1"), ("list", "1-x", "1-2"), ("draw", "1-1", "1-2"), ("draw", "1-1", "1-2", "-o", "x.jpeg"),
+                     ("draw", "1-1", "1-2", "-o", "x.svg", "--paths", "3-1"), ("check", "--all")):
+            with self.subTest(args=args):
+                status, out, said = book(*args)
+                self.assertEqual((status, out), (2, b""))
+                self.assertIn("usage: book", said)
+
+
+class Drawing(unittest.TestCase):
+    def picture(self, name="house", **options):
+        source, destination = map(isd_as.parse, EXAMPLES[name])
+        data = (ROOT / "examples" / f"{name}.book").read_bytes()
+        return Picture(layout.read(data), source, destination, printed.parse(model.printed(asked(source, destination, data))), {}, **options)
+
+    def dot(self, picture):
+        return dot.dot_text(picture, {a: k for k, a in enumerate(picture.ases)}, forced=True)
+
+    def test_levels(self):
+        level = {isd_as.written(a): n for a, n in self.picture().level.items()}
+        self.assertEqual({a for a, n in level.items() if n == 0}, {"1-ff00:0:110", "1-ff00:0:120"})
+        self.assertEqual({a for a, n in level.items() if n == 2}, {"1-ff00:0:131", "1-ff00:0:141"})
+
+    def test_links(self):
+        found = {(isd_as.written(k.first[0]), k.first[1], isd_as.written(k.second[0]), k.second[1]): (k.kind, k.paths, k.segments)
+                 for k in self.picture().links}
+        self.assertEqual(len(found), 10)
+        self.assertEqual(found["1-ff00:0:110", 1, "1-ff00:0:120", 1], ("core", [4, 5], [0]))
+        self.assertEqual(found["1-ff00:0:121", 3, "1-ff00:0:112", 3], ("peering", [1], [2, 3]))
+        self.assertEqual(found["1-ff00:0:121", 2, "1-ff00:0:131", 2], ("parent", [1, 2, 4], [2]))
+
+    def test_text(self):
+        words = self.dot(self.picture())
+        for expected in ("5 solutions, 5 paths", "1767264000", "2026-01-01T10:40:00Z", "1-ff00:0:131 2&gt;2 1-ff00:0:121 3&gt;3 1-ff00:0:112 2&gt;1 1-ff00:0:141",
+                         "style=dashed", "destination", *COLOURS[:5]):
+            self.assertIn(expected, words)
+        self.assertNotIn(COLOURS[5], words)
+
+    def test_some_paths(self):
+        picture = self.picture(wanted={2, 5})
+        self.assertEqual([s.number for s in picture.drawn], [2, 5])
+        self.assertIn("5 solutions, 5 paths, 2 drawn", self.dot(picture))
+        self.assertEqual(len(self.picture(wanted={1}, used=True).links), 3)
+        self.assertEqual(self.picture(wanted={1}, used=True).level[isd_as.parse("1-ff00:0:131")], 2)
+        with self.assertRaisesRegex(BookError, "there is no solution 6: the list has 5"):
+            self.picture(wanted={6})
+        with self.assertRaisesRegex(BookError, "11 paths are too many"):
+            self.picture(wanted=set(range(1, 12)))
+
+    def test_unlisted(self):
+        # The middle AS shows no interface, so that the path leaps over it.
+        words = "non-core timestamp 0 id 0000\n" + "".join(
+            f"entry 1-{k} mtu 1500 ingress-mtu 0 ingress {i} egress {e} units 0 mac 000000000000\n" for k, i, e in ((1, 0, 5), (2, 0, 0), (3, 7, 0)))
+        segments = text.parse(words.encode())
+        source, destination = isd_as.parse("1-3"), isd_as.parse("1-1")
+        answer = printed.parse(model.printed(asked(source, destination, layout.write(segments))))
+        picture = Picture(segments, source, destination, answer, {})
+        self.assertEqual([link.kind for link in picture.links if link.paths], ["unlisted"])
+        self.assertEqual([picture.level[isd_as.parse(f"1-{k}")] for k in (1, 2, 3)], [0, 1, 2])
+        self.assertIn("style=dotted", self.dot(picture))
+
+    def test_generated(self):
+        for source, destination, data in generate.cases("draw", 60):
+            answer = printed.parse(model.printed(asked(source, destination, data)))
+            picture = Picture(layout.read(data), source, destination, answer, {source: 'a "name" <b> & \\'})
+            words = self.dot(picture)
+            for a in picture.ases:
+                self.assertIn(f"{dot.node(a)} [label=", words)
+            for s in picture.drawn:
+                self.assertIn(picture.colours[s.number], words)
+
+    def test_without_graphviz(self):
+        house = ROOT / "examples" / "house.book"
+        with tempfile.TemporaryDirectory() as folder:
+            # The program runs by its shebang, so python3 must be found; dot must not.
+            Path(folder, "python3").symlink_to(sys.executable)
+            args = ("draw", "--program", MODEL, *EXAMPLES["house"], house, "-o")
+            status, _, said = book(*args, Path(folder, "x.svg"), path=folder)
+            self.assertEqual(status, 1)
+            self.assertIn("dot is not installed (package graphviz); -o with a name that ends in .dot", said)
+            self.assertEqual(book(*args, Path(folder, "x.dot"), path=folder), (0, b"", ""))
+            self.assertTrue(Path(folder, "x.dot").read_text().startswith("graph paths {"))
+
+    @unittest.skipUnless(draw.installed(), "dot is not installed")
+    def test_with_graphviz(self):
+        with tempfile.TemporaryDirectory() as folder:
+            names = Path(folder, "names")
+            names.write_text("1-ff00:0:131 kiln <3> & \"desk\"\n")
+            status, _, said = book("draw", "--program", MODEL, "--names", names, *EXAMPLES["house"], ROOT / "examples" / "house.book",
+                                   "-o", Path(folder, "x.svg"))
+            self.assertEqual((status, said), (0, ""))
+            words = Path(folder, "x.svg").read_text()
+            self.assertIn("<svg", words)
+            self.assertIn("kiln &lt;3&gt; &amp; &quot;desk&quot;", words)
+
+    def test_refused(self):
+        status, _, said = book("draw", "--program", MODEL, "1-1", "1-2", "-o", "x.dot", given=bytes(7))
+        self.assertEqual((status, said), (1, "book: <standard input>: refused 1 (Cut), at byte 7: the book has 7 bytes, its sizes alone take 8\n"))
+
+    def test_names_file(self):
+        for words, message in (("1-ff00:0:110\n", "n:1: 1-ff00:0:110 without a name that can be shown"), ("# x\nx y\n", "n:2: 'x' is no ISD-AS such as"),
+                               ("1-1 a\n1-1 b\n", "n:2: 1-1 has a name already")):
+            with self.assertRaises(BookError) as found:
+                text.names_in(words.encode(), "n")
+            self.assertIn(message, str(found.exception))
+
+
+class Model(unittest.TestCase):
+    """Document 01's bench cases, so that the model deserves to be asked."""
+    MAC = bytes.fromhex("010203040506")
+
+    def two(self, mtu=1500, units=63, timestamp=1000000, peers=()):
+        entries = [((B, mtu, 0, 0, 5, units, self.MAC), list(peers)), ((A, 9000, 0, 7, 0, units, bytes.fromhex("0a0b0c0d0e0f")), [])]
+        return timestamp, 0x1234, entries
+
+    def listed(self, source, destination, *segments):
+        return model.printed(asked(source, destination, generate.packed([], list(segments))))
+
+    def test_worked(self):
+        self.assertEqual(model.printed(WORKED_INPUT), WORKED_LIST)
+        turned = model.printed(WORKED_INPUT[8:16] + WORKED_INPUT[:8] + WORKED_INPUT[16:])
+        self.assertIn("info 1 1234 1000000\n", turned)
+
+    def test_peers(self):
+        c = 0x0001FF0000000112
+        one = (0, 0, [((c, 1500, 0, 0, 0, 63, bytes.fromhex("0a0b0c0d0e0f")), [(B, 9, 1500, 63, 2, 0, self.MAC)])])
+        answer = self.listed(c, A, self.two(peers=[(c, 2, 1500, 63, 9, 5, b"\xf0" * 6)]), one)
+        self.assertIn("info 2 0a0b 0\ninfo 3 1336 1000000\n", answer)
+
+    def test_life(self):
+        for units, life in ((0, 337), (1, 675), (255, 86400)):
+            self.assertIn(f" expiry {life} ", self.listed(A, B, self.two(units=units, timestamp=0)))
+        self.assertIn(" expiry 4294967295 ", self.listed(A, B, self.two(timestamp=2**32 - 1)))
+
+    def test_mtu(self):
+        self.assertIn(" mtu 4464 ", self.listed(A, B, self.two(mtu=70000)))
+
+    def test_loop_and_bare(self):
+        c = 0x0001FF0000000112
+        def pair(top, low, ingress, egress):
+            return 0, 0, [((top, 1500, 0, ingress, egress, 0, self.MAC), []), ((low, 1500, 0, 1, 0, 0, self.MAC), [])]
+        self.assertEqual(self.listed(A, c, pair(B, A, 0, 1), pair(B, c, 3, 2)), "solutions 1 paths 0\n1 cost 2 segments 2 loop\n")
+        self.assertIn("paths 1\n", self.listed(A, c, pair(B, A, 0, 1), pair(B, c, 0, 2)))
+        bare = 0, 0, [((x, 1500, 0, 0, 0, 0, self.MAC), []) for x in (B, A)]
+        self.assertEqual(self.listed(A, B, bare), "solutions 1 paths 0\n1 cost 1 segments 1 bare\n")
+
+    def test_short_input(self):
+        self.assertEqual(model.printed(bytes(15)), "refused 1\n")
+        self.assertEqual(model.printed(bytes(16)), "refused 1\n")
+        self.assertEqual(model.printed(bytes(24)), "solutions 0 paths 0\n")
+
+
+class Examples(unittest.TestCase):
+    def test_up_to_date(self):
+        for name, (source, destination) in EXAMPLES.items():
+            with self.subTest(example=name):
+                words, data, listed = (ROOT / "examples" / f"{name}.{kind}" for kind in ("txt", "book", "list"))
+                self.assertEqual(book("encode", words), (0, data.read_bytes(), ""))
+                plain = [line for line in words.read_text().splitlines() if line and not line.startswith("#")]
+                self.assertEqual(text.written(layout.read(data.read_bytes())).splitlines(), plain)
+                self.assertEqual(book("list", "--plain", "--program", MODEL, source, destination, data), (0, listed.read_bytes(), ""))
+                self.assertIn(f"| `{name}` | {source} | {destination} |", (ROOT / "examples" / "README.md").read_text())
+
+    def test_worked(self):
+        self.assertEqual((ROOT / "examples" / "worked.book").read_bytes(), WORKED_INPUT[16:])
+        self.assertEqual((ROOT / "examples" / "worked.list").read_text(), WORKED_LIST)
+
+    def test_picture(self):
+        words = html.unescape((ROOT / "examples" / "house.svg").read_text()).replace("\xa0", " ")
+        for s in printed.parse((ROOT / "examples" / "house.list").read_text()):
+            for expected in (s.mtu, s.expiry, " ".join(dot.route(s))):
+                self.assertIn(f">{expected}<", words)
+
+    @unittest.skipUnless(os.access(LIST, os.X_OK), "the program list is not built")
+    def test_program(self):
+        for name, (source, destination) in EXAMPLES.items():
+            data = ROOT / "examples" / f"{name}.book"
+            self.assertEqual(book("list", "--plain", source, destination, data), (0, (ROOT / "examples" / f"{name}.list").read_bytes(), ""))
+        for source, destination, data in generate.cases("program", 200):
+            given = asked(source, destination, data)
+            self.assertEqual(printed.run(str(LIST), source, destination, data), model.printed(given))
+
+
+class Manual(unittest.TestCase):
+    def test_commands_and_options(self):
+        page = (ROOT / "man" / "book.1").read_text().replace("\\-", "-")
+        for word in ("encode", "decode", "check", "list", "draw", "--notes", "--plain", "--program", "--names", "--paths", "--used", "--title", "-o"):
+            self.assertIn(word, page)
+        for number, word in layout.WORDS.items():
+            self.assertIn(word, (ROOT / "man" / "list.1").read_text(), number)
+
+
+if __name__ == "__main__":
+    unittest.main()

@@ -1,0 +1,113 @@
+"""The printed list: running the program `list`, reading what it prints, adding names."""
+import re
+import subprocess
+from dataclasses import dataclass, field
+
+from . import BookError, isd_as, times
+from .layout import WORDS, verdict
+
+COUNTS = re.compile(r"solutions ([0-9]+) paths ([0-9]+)")
+REFUSED = re.compile(r"refused ([0-9]+)")
+SOLUTION = re.compile(r"([0-9]+) cost ([0-9]+) segments ([123]) (?:mtu ([0-9]+) expiry ([0-9]+) hops ([0-9]+)|(loop|bare))")
+INFO = re.compile(r"info ([0-3]) ([0-9a-f]{4}) ([0-9]+)")
+INTERFACE = re.compile(r"if ([0-9a-f]{16}) ([0-9]+)")
+
+DIRECTIONS = {0: "against construction", 1: "in construction direction",
+              2: "against construction, peering", 3: "in construction direction, peering"}
+
+
+@dataclass
+class Solution:
+    number: int
+    cost: int
+    segments: int
+    outcome: str  # path, loop or bare
+    mtu: int = None
+    expiry: int = None
+    hops: int = None
+    interfaces: list = field(default_factory=list)  # pairs of AS and interface id
+
+
+def run(program, source, destination, book):
+    """What the program prints for this input."""
+    given = source.to_bytes(8, "big") + destination.to_bytes(8, "big") + book
+    try:
+        done = subprocess.run([program], input=given, capture_output=True, timeout=60, check=False)
+    except OSError as wrong:
+        raise BookError(f"cannot run {program}: {wrong.strerror}") from None
+    except subprocess.TimeoutExpired:
+        raise BookError(f"{program} gave no answer in 60 seconds") from None
+    try:
+        text = done.stdout.decode("ascii")
+    except UnicodeDecodeError:
+        text = ""
+    if not text.endswith("\n"):
+        said = done.stderr.decode(errors="replace").strip()
+        raise BookError(f"{program} printed no list (exit status {done.returncode}){': ' + said if said else ''}")
+    return text
+
+
+def refusal(text):
+    """The number that the program refuses with, or None."""
+    found = REFUSED.fullmatch(text.strip())
+    return int(found.group(1)) if found else None
+
+
+def parse(text):
+    """The solutions of a printed list."""
+    lines = text.splitlines()
+    counts = COUNTS.fullmatch(lines[0]) if lines else None
+    if not counts:
+        raise BookError("the program's output is no printed list")
+    found = []
+    for number, line in enumerate(lines[1:], 2):
+        solution, interface = SOLUTION.fullmatch(line), INTERFACE.fullmatch(line)
+        if solution:
+            k, cost, segments, mtu, expiry, hops, other = solution.groups()
+            if other:
+                found.append(Solution(int(k), int(cost), int(segments), other))
+            else:
+                found.append(Solution(int(k), int(cost), int(segments), "path", int(mtu), int(expiry), int(hops)))
+        elif interface and found:
+            found[-1].interfaces.append((int(interface.group(1), 16), int(interface.group(2))))
+        elif not (INFO.fullmatch(line) and found):
+            raise BookError(f"line {number} of the program's output is not one of a printed list: {line}")
+    paths = sum(s.outcome == "path" for s in found)
+    if (len(found), paths) != tuple(map(int, counts.groups())):
+        raise BookError(f"the program prints {len(found)} solutions, {paths} with a path, and says: {lines[0]}")
+    return found
+
+
+def refusal_words(number, book):
+    """A refusal of the program, in the words of `check` where that finds the same."""
+    found = verdict(book)
+    if found and found.number == number:
+        return str(found)
+    if number == 8:
+        return "refused 8 (Full): more than 4096 solutions"
+    return f"refused {number} ({WORDS.get(number, 'unknown')})"
+
+
+def added(line, names):
+    """What names add to a line of the list."""
+    interface = INTERFACE.fullmatch(line)
+    if interface:
+        number = int(interface.group(1), 16)
+        name = f"  {names[number]}" if number in names else ""
+        return f"{isd_as.written(number)}#{interface.group(2)}{name}"
+    info = INFO.fullmatch(line)
+    if info:
+        return f"{DIRECTIONS[int(info.group(1))]}, issued {times.written(int(info.group(3)))}"
+    solution = SOLUTION.fullmatch(line)
+    if solution and solution.group(5):
+        return f"expires {times.written(int(solution.group(5)))}"
+    return ""
+
+
+def with_names(text, names):
+    """The printed list with names to the right of its lines."""
+    lines = []
+    for line in text.splitlines():
+        more = added(line, names)
+        lines.append(f"{line:<25}  {more}".rstrip() if more else line)
+    return "".join(line + "\n" for line in lines)

@@ -1,0 +1,188 @@
+"""The text form of a book: one line to a segment, entry or peer.
+
+    core timestamp 1000000 id 1234
+    non-core timestamp 1000000 id 1234
+      entry 1-ff00:0:110 mtu 1500 ingress-mtu 0 ingress 0 egress 5 units 63 mac 010203040506
+        peer 1-ff00:0:112 interface 2 mtu 1400 units 63 ingress 9 egress 5 mac f0f1f2f3f4f5
+
+An entry belongs to the segment above it, a peer to the entry above it. The named fields may stand in any order, each once.
+`#` at the start of a word begins a comment. Canonical text is what `written` gives: fields in the order of the bytes, two spaces
+of indent for an entry, four for a peer, no comments.
+"""
+import re
+
+from . import BookError, isd_as, times
+from .layout import (ENTRY_FIELDS, ENTRY_SIZE, HEAD_SIZE, MAX_BOOK, MAX_ENTRIES, MAX_PEERS, MAX_SEGMENTS, PEER_FIELDS, PEER_SIZE,
+                     SEGMENT_FIELDS, SIZES_SIZE, WORDS, Entry, Peer, Segment, counted)
+
+DIGITS = re.compile(r"[0-9]+")
+COMMENT = re.compile(r"(^|\s)#.*")
+
+
+# ---- writing
+
+def value(field, number):
+    if field.style == "isd-as":
+        return isd_as.written(number)
+    return f"{number:0{2 * field.size}x}" if field.style == "hex" else str(number)
+
+
+def line(indent, word, record, fields):
+    words = [word]
+    for f in fields:
+        words += [f.name] if f.style != "isd-as" else []
+        words.append(value(f, getattr(record, f.attribute)))
+    return " " * indent + " ".join(words) + "\n"
+
+
+def note(position, segment):
+    ends = [isd_as.written(e.isd_as) for e in segment.entries]
+    route = f", {ends[0]} to {ends[-1]}" if ends else ""
+    return f"# position {position}: {counted(len(ends), 'entry', 'entries')}{route}, issued {times.written(segment.timestamp)}\n"
+
+
+def written(segments, notes=False):
+    """Canonical text; with notes, a comment above each segment."""
+    parts = []
+    for position, segment in enumerate(segments):
+        if notes:
+            parts.append(note(position, segment))
+        parts.append(line(0, "core" if segment.core else "non-core", segment, SEGMENT_FIELDS))
+        for entry in segment.entries:
+            parts.append(line(2, "entry", entry, ENTRY_FIELDS))
+            parts += [line(4, "peer", peer, PEER_FIELDS) for peer in entry.peers]
+    return "".join(parts)
+
+
+# ---- reading
+
+def number_in(field, word):
+    """The number of a field; ValueError says what is wrong."""
+    if field.style == "isd-as":
+        return isd_as.parse(word)
+    if field.style == "hex":
+        if not re.fullmatch(f"[0-9a-fA-F]{{{2 * field.size}}}", word):
+            raise ValueError(f"{field.name} is written in {2 * field.size} hex digits, not {word!r}")
+        return int(word, 16)
+    if field.name == "timestamp" and "T" in word:
+        try:
+            number = times.parse(word)
+        except ValueError:
+            raise ValueError(f"{word!r} is no time such as 2026-01-01T06:00:00Z") from None
+    elif DIGITS.fullmatch(word):
+        number = int(word)
+    else:
+        raise ValueError(f"{field.name} is a number in base ten, not {word!r}")
+    if not 0 <= number <= field.most:
+        raise ValueError(f"{field.name} {word} is above {field.most}" if number > 0 else f"{field.name} {word} is before 1970")
+    return number
+
+
+def values_in(word, fields, words):
+    """The fields of one line: the ISD-AS first where there is one, then names with values."""
+    values, rest = {}, list(words)
+    if fields[0].style == "isd-as":
+        if not rest:
+            raise ValueError(f"{word} without its ISD-AS")
+        values[fields[0].attribute] = number_in(fields[0], rest.pop(0))
+    named = {f.name: f for f in fields if f.style != "isd-as"}
+    while rest:
+        name = rest.pop(0)
+        if name not in named:
+            raise ValueError(f"{word} has no field {name!r}, its fields are {', '.join(named)}")
+        if named[name].attribute in values:
+            raise ValueError(f"{name} stands twice")
+        if not rest:
+            raise ValueError(f"{name} without a value")
+        values[named[name].attribute] = number_in(named[name], rest.pop(0))
+    lacking = [name for name, f in named.items() if f.attribute not in values]
+    if lacking:
+        raise ValueError(f"{word} lacks {', '.join(lacking)}")
+    return values
+
+
+class Parser:
+    def __init__(self):
+        self.segments = []
+        self.size = SIZES_SIZE
+
+    def take(self, words):
+        """One line's words; ValueError says what is wrong."""
+        word, rest = words[0], words[1:]
+        if word in ("core", "non-core"):
+            self.segment(word == "core", values_in(word, SEGMENT_FIELDS, rest))
+            self.size += HEAD_SIZE
+        elif word == "entry":
+            self.entry(values_in(word, ENTRY_FIELDS, rest))
+            self.size += ENTRY_SIZE
+        elif word == "peer":
+            self.peer(values_in(word, PEER_FIELDS, rest))
+            self.size += PEER_SIZE
+        else:
+            raise ValueError(f"a line begins with core, non-core, entry or peer, not {word!r}")
+        if self.size > MAX_BOOK:
+            raise ValueError(limit(3, f"the book has {self.size} bytes up to here, at most {MAX_BOOK} are taken"))
+
+    def segment(self, core, values):
+        if core and self.segments and not self.segments[-1].core:
+            raise ValueError("a core segment below a non-core one: cores stand first, since positions count them first")
+        if len(self.segments) == MAX_SEGMENTS:
+            raise ValueError(limit(4, f"more than {MAX_SEGMENTS} segments"))
+        self.segments.append(Segment(core, **values))
+
+    def entry(self, values):
+        if not self.segments:
+            raise ValueError("an entry above the first segment")
+        if len(self.segments[-1].entries) == MAX_ENTRIES:
+            raise ValueError(limit(5, f"more than {MAX_ENTRIES} entries in segment {len(self.segments) - 1}"))
+        self.segments[-1].entries.append(Entry(**values))
+
+    def peer(self, values):
+        if not self.segments or not self.segments[-1].entries:
+            raise ValueError("a peer with no entry above it in its segment")
+        entries = self.segments[-1].entries
+        if len(entries[-1].peers) == MAX_PEERS:
+            raise ValueError(limit(6, f"more than {MAX_PEERS} peers at entry {len(entries) - 1} of segment {len(self.segments) - 1}"))
+        entries[-1].peers.append(Peer(**values))
+
+
+def limit(number, words):
+    return f"{words} (refusal {number}, {WORDS[number]})"
+
+
+def lines_of(data, name):
+    """Number and words of each line that is not blank."""
+    for number, raw in enumerate(data.split(b"\n"), 1):
+        try:
+            words = COMMENT.sub("", raw.decode()).split()
+        except UnicodeDecodeError:
+            raise BookError(f"{name}:{number}: not UTF-8 text") from None
+        if words:
+            yield number, words
+
+
+def parse(data, name="<text>"):
+    """The segments that the text (bytes) describes; BookError with name and line number."""
+    parser = Parser()
+    for number, words in lines_of(data, name):
+        try:
+            parser.take(words)
+        except ValueError as wrong:
+            raise BookError(f"{name}:{number}: {wrong}") from None
+    return parser.segments
+
+
+def names_in(data, name="<names>"):
+    """Names for ASes: lines of an ISD-AS and the words to show for it."""
+    found = {}
+    for number, (word, *rest) in lines_of(data, name):
+        try:
+            known = isd_as.parse(word)
+            if not rest or not "".join(rest).isprintable():
+                raise ValueError(f"{word} without a name that can be shown")
+            if known in found:
+                raise ValueError(f"{word} has a name already")
+            found[known] = " ".join(rest)
+        except ValueError as wrong:
+            raise BookError(f"{name}:{number}: {wrong}") from None
+    return found
