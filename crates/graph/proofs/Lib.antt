@@ -11,3 +11,4 @@ pub mod PushedLaws
 pub mod PushedRecords
 pub mod PushedTurns
 pub mod ListLaws
+pub mod NamedLaws
