@@ -12,3 +12,5 @@ pub mod PushedRecords
 pub mod PushedTurns
 pub mod ListLaws
 pub mod NamedLaws
+pub mod NamedPlaces
+pub mod RecordedLaws

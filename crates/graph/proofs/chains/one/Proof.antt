@@ -1,0 +1,4 @@
+use Rattle.graph.proofs.chains.one.Statement.{statement}
+
+pub one-spec : {M : Type 1} → statement M
+one-spec = ?

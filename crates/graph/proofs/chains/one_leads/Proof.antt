@@ -1,0 +1,4 @@
+use Rattle.graph.proofs.chains.one_leads.Statement.{statement}
+
+pub one-leads-spec : {M : Type 1} → statement M
+one-leads-spec = ?
