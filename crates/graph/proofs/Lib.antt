@@ -14,3 +14,4 @@ pub mod ListLaws
 pub mod NamedLaws
 pub mod NamedPlaces
 pub mod RecordedLaws
+pub mod NamedTurns

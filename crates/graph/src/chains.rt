@@ -2,12 +2,10 @@
 ghost use mathlib.Core.Path.{_≡_};
 ghost use mathlib.Core.Bool.{_&&_, not};
 ghost use mathlib.Core.List.{[], _∷_};
-ghost use Rattle.spec.specs.declared.Vertex.the-variants.{AS};
 ghost use Rattle.spec.specs.declared.Verdict.the-variants.{Accepted};
 ghost use Rattle.spec.specs.Basics.{sameList};
 ghost use Rattle.spec.specs.Book.{verdict};
 ghost use Rattle.spec.specs.Edges.{sameVertex};
-ghost use Rattle.spec.specs.Chains.{allowedKinds};
 ghost use Rattle.spec.specs.Records.{recordEdge};
 ghost use Rattle.segment.specs.Offsets.{offsetTable};
 ghost use Rattle.graph.specs.Lookup.{foundEdges};
@@ -19,9 +17,9 @@ ghost use Rattle.graph.specs.Named.{ahead, withIdentities, leadsBy, isWa
 use crate::Chain;
 use crate::Found;
 use crate::edges;
-use crate::edges::PLACES;
 use crate::slots;
 use crate::stored;
+use segment::PLACES;
 use spec::Edge;
 use spec::IsdAsn;
 use spec::Solution;
@@ -136,28 +134,41 @@ fn one_leads(src: IsdAsn, dst: IsdAsn, e: Edge) -> bool
 }
 
 // Not both are core.
+fn two_kinds(e: bool, f: bool) -> bool
+    ensures { λ r. ⌜ r ≡ not (e && f) ⌝ }
+{
+    if e {
+        return !f;
+    }
+    true
+}
+
+// The second alone is core.
+fn three_kinds(e: bool, f: bool, g: bool) -> bool
+    ensures { λ r. ⌜ r ≡ (not e && f && not g) ⌝ }
+{
+    if e {
+        return false;
+    }
+    if !f {
+        return false;
+    }
+    !g
+}
+
 fn two_lead(src: IsdAsn, dst: IsdAsn, e: Edge, f: Edge) -> bool
     ensures { λ r. ⌜ r ≡ isWay src dst (e ∷ f ∷ []) ⌝ }
 {
-    if e.core {
-        if f.core {
-            return false;
-        }
+    if !two_kinds(e.core, f.core) {
+        return false;
     }
     two_arrive(Vertex::AS(dst), Vertex::AS(src), e, f)
 }
 
-// The second alone is core.
 fn three_lead(src: IsdAsn, dst: IsdAsn, e: Edge, f: Edge, g: Edge) -> bool
     ensures { λ r. ⌜ r ≡ isWay src dst (e ∷ f ∷ g ∷ []) ⌝ }
 {
-    if e.core {
-        return false;
-    }
-    if !f.core {
-        return false;
-    }
-    if g.core {
+    if !three_kinds(e.core, f.core, g.core) {
         return false;
     }
     three_arrive(Vertex::AS(dst), Vertex::AS(src), e, f, g)
