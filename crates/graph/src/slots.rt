@@ -24,7 +24,7 @@ fn weight(e: Edge) -> u16
     e.weight as u16
 }
 
-fn edge(e: Edge) -> SolutionEdge
+pub(crate) fn edge(e: Edge) -> SolutionEdge
     ensures { λ r. ⌜ r ≡ solutionEdge e ⌝ }
 {
     SolutionEdge {
