@@ -1,21 +1,20 @@
 -- The chains that a record names, edge by edge, are the chains whose record it is.
 -- Assumes nothing.
-use Prim.Native.Nat.{ℕ, suc, _≤_, _<_}
-use native.Mathlib.Omega.{arith}
-use mathlib.Core.Path.{_≡_, refl, sym, ap, ap₂, _∙_, subst}
-use mathlib.Core.Logic.{_⊎_, inl, inr, ⊎-elim}
+use Prim.Native.Nat.{ℕ, suc}
+use mathlib.Core.Path.{_≡_, refl, sym, ap, _∙_, subst}
+use mathlib.Core.Logic.{⊎-elim}
 use mathlib.Core.Bool.{Bool, true, false, _&&_, not, false≢true}
 use mathlib.Core.List.{List, [], _∷_, map, flatMap, List·Memᴰ as Mem, List·Memᴰ·head as head, List·Memᴰ·tail as tail, List·Memᴰ·not-nil as not-nil, List·Memᴰ·cases-cons as cases-cons, Memᴰ·cast, head-eq-of-cons-eq, tail-eq-of-cons-eq}
 use lib.ListN.{length}
-use lib.Dec.{T, eqb}
-use borrow.Author.Tests.{eqb-true, eq-eqb}
+use lib.Dec.{T}
+use borrow.Author.Tests.{not-true}
 use Rattle.spec.specs.declared.IsdAsn.{IsdAsn}
 use Rattle.spec.specs.declared.Vertex.{Vertex}
 use Rattle.spec.specs.declared.Vertex.the-variants.{AS}
 use Rattle.spec.specs.declared.Edge.{Edge}
 use Rattle.spec.specs.declared.SolutionEdge.{SolutionEdge}
 use Rattle.spec.specs.Basics.{if_then_else_, filter, sameList, Once}
-use Rattle.spec.specs.Edges.{sameAs, sameVertex, sameBool, storedEdges}
+use Rattle.spec.specs.Edges.{sameAs, sameVertex, storedEdges}
 use Rattle.spec.specs.Chains.{allowedKinds, Leads, IsChain, chains}
 use Rattle.spec.specs.Order.{solutionEdge}
 use Rattle.spec.specs.Records.{solutionOctets}
@@ -26,9 +25,10 @@ use Rattle.spec.proofs.ByteLaws.{edges-back}
 use Rattle.spec.proofs.ChainLaws.{Among, chains-sound, chains-complete}
 use Rattle.spec.proofs.OnceLaws.{once-stored, once-chains}
 use Rattle.spec.proofs.AnswerLaws.{sameList-eq, sameList-refl, record-chain}
-use Rattle.graph.specs.Identity.{sameIdentity, hasIdentity, identifiedIn}
+use Rattle.graph.specs.Identity.{hasIdentity, identifiedIn}
 use Rattle.graph.specs.Recorded.{isRecordOf, recordedChains}
 use Rattle.graph.specs.Named.{ahead, withIdentities, leadsBy, isWay, passing, chainsNamed}
+use Rattle.graph.proofs.IdentityLaws.{own-identity}
 
 -- ---- lists that have the same element
 
@@ -47,18 +47,6 @@ module _ {A : Type 0} where
   same-one (x ∷ w ∷ xs) ys ox oy same there back = absurd (only x w xs ox (λ u v k l. same u v (there u k) (there v l)))
 
 -- ---- identities
-
-sameBool-refl : (t : Bool) → sameBool t t ≡ true
-unfolding sameBool
-sameBool-refl true = refl
-sameBool-refl false = refl
-
-pub own-identity : (e : Edge) → hasIdentity (solutionEdge e) e ≡ true
-unfolding hasIdentity sameIdentity solutionEdge
-own-identity e =
-    true-and _ _
-    (true-and _ _ (true-and _ _ (eq-eqb (e .position) (e .position) refl) (eq-eqb (e .shortcut) (e .shortcut) refl)) (eq-eqb (e .peer) (e .peer) refl))
-    (sameBool-refl (e .construction))
 
 module _ (b : List ℕ) where
   identified-mem : (id : SolutionEdge) {e : Edge} → Mem e (identifiedIn b id) → Mem e (storedEdges b)
@@ -117,13 +105,6 @@ module _ (b : List ℕ) where
 
 -- ---- the tests
 
-not-true : (t : Bool) → not t ≡ true → t ≡ false
-not-true true q = absurd (false≢true q)
-not-true false q = refl
-
-false-not : (t : Bool) → t ≡ false → not t ≡ true
-false-not t q = ap not q
-
 bool-false : (t : Bool) → (t ≡ true → ⊥) → t ≡ false
 bool-false true n = absurd (n refl)
 bool-false false n = refl
@@ -148,7 +129,7 @@ leads-by goal at [] l = absurd l
 leads-by goal at (e ∷ []) l = true-and _ _ (eq-sameVertex (e .src) at (l .0)) (eq-sameVertex (e .dst) goal (l .1))
 leads-by goal at (e ∷ f ∷ es) l =
     true-and _ _
-    (true-and _ _ (eq-sameVertex (e .src) at (l .0)) (false-not _ (bool-false (sameVertex (e .dst) goal) (λ q. l .1 (sameVertex-eq (e .dst) goal q)))))
+    (true-and _ _ (eq-sameVertex (e .src) at (l .0)) (ap not (bool-false (sameVertex (e .dst) goal) (λ q. l .1 (sameVertex-eq (e .dst) goal q)))))
     (leads-by goal (e .dst) (f ∷ es) (l .2))
 
 module _ (r : List ℕ) (c : List Edge) where
@@ -156,9 +137,9 @@ module _ (r : List ℕ) (c : List Edge) where
   unfolding isRecordOf
   of-record q = sameList-eq r (solutionOctets c) q
 
-  pub record-of : r ≡ solutionOctets c → isRecordOf r c ≡ true
+  pub has-record : r ≡ solutionOctets c → isRecordOf r c ≡ true
   unfolding isRecordOf
-  record-of q = subst (λ x. sameList r x ≡ true) q (sameList-refl r)
+  has-record q = subst (λ x. sameList r x ≡ true) q (sameList-refl r)
 
 -- ---- the chains
 
@@ -171,7 +152,7 @@ module _ (b : List ℕ) (src dst : IsdAsn) (r : List ℕ) where
 
   pub mem-recorded : (c : List Edge) → IsChain b src dst c → r ≡ solutionOctets c → Mem c (recordedChains b src dst r)
   unfolding recordedChains
-  mem-recorded c h q = mem-filter (isRecordOf r) (chains b src dst) (chains-complete b src dst c h) (record-of r c q)
+  mem-recorded c h q = mem-filter (isRecordOf r) (chains b src dst) (chains-complete b src dst c h) (has-record r c q)
 
   once-recorded : Once (recordedChains b src dst r)
   unfolding recordedChains
@@ -211,7 +192,7 @@ module _ (b : List ℕ) (src dst : IsdAsn) (r : List ℕ) where
         true-and _ _ (T-true (allowedKinds c) (h .kinds)) (leads-by (AS dst) (AS src) c (h .leads)) in
         mem-filter (isRecordOf r) (filter (isWay src dst) (withIdentities b (edgesIn r)))
         (mem-filter (isWay src dst) (withIdentities b (edgesIn r)) (subst (λ x. Mem c (withIdentities b x)) (sym ids) (with-complete b c (h .stored))) way)
-        (record-of r c q)
+        (has-record r c q)
 
     once-passing : (ids : List SolutionEdge) → Once (passing src dst r (withIdentities b ids))
     unfolding passing

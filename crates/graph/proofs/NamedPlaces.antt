@@ -3,19 +3,18 @@
 use Prim.Native.Nat.{ℕ, _+_, _-_, _≤_, _<_}
 use native.Mathlib.Omega.{arith}
 use mathlib.Core.Path.{_≡_, refl, sym, ap, ap₂, _∙_}
-use mathlib.Core.Bool.{Bool, true, false, _&&_}
-use mathlib.Core.List.{List, [], _∷_, _++_, append-nil, List·Memᴰ as Mem}
-use lib.Dec.{eqb}
-use borrow.Author.Tests.{ne-eqb}
+use mathlib.Core.Bool.{true, false}
+use mathlib.Core.List.{List, [], _++_, append-nil, List·Memᴰ as Mem}
 use Rattle.spec.specs.declared.Edge.{Edge}
 use Rattle.spec.specs.declared.SolutionEdge.{SolutionEdge}
 use Rattle.spec.specs.Basics.{filter}
 use Rattle.spec.specs.Book.{Segment, segments, segmentAt, segmentCount}
-use Rattle.spec.specs.Edges.{sameBool, insertions, isFirst, firsts, storedOf, storedEdges}
+use Rattle.spec.specs.Edges.{insertions, isFirst, firsts, storedOf, storedEdges}
 use Rattle.spec.specs.Order.{solutionEdge}
 use Rattle.spec.proofs.OnceLaws.{inserted, lasting-mem, segment-position}
-use Rattle.graph.specs.Identity.{sameIdentity, hasIdentity, identified, identifiedIn}
+use Rattle.graph.specs.Identity.{hasIdentity, identified, identifiedIn}
 use Rattle.graph.specs.Search.{overFirsts}
+use Rattle.graph.proofs.IdentityLaws.{other-position}
 use Rattle.graph.proofs.SearchLists.{filter-append, filter-same, through}
 use Rattle.graph.proofs.SearchLaws.{over-firsts, over-turn, over-pass, over-split, over-none}
 
@@ -31,11 +30,8 @@ module _ (b : List ℕ) (id : SolutionEdge) where
 
   -- an edge of another position has another identity
   other-edge : (e : Edge) → (e .position ≡ id .position → ⊥) → hasIdentity id e ≡ false
-  unfolding hasIdentity sameIdentity solutionEdge
-  other-edge e n =
-      ap
-      (λ t. t && eqb (e .shortcut) (id .shortcut) && eqb (e .peer) (id .peer) && sameBool (e .construction) (id .construction))
-      (ne-eqb (e .position) (id .position) n)
+  unfolding hasIdentity solutionEdge
+  other-edge e n = sym (other-position (solutionEdge e) id n)
 
   elsewhere : (k : ℕ) → (k ≡ id .position → ⊥) → those (segmentAt b k) ≡ []
   unfolding identified storedOf

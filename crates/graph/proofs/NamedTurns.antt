@@ -3,9 +3,9 @@
 use Prim.Native.Nat.{ℕ, suc, _+_, _-_, _≤_, _<_}
 use native.Mathlib.Omega.{arith}
 use native.Mathlib.Numerals.{add-one}
-use mathlib.Core.Path.{_≡_, refl, sym, ap, ap₂, _∙_, subst}
-use mathlib.Core.Bool.{Bool, true, false, _&&_, false≢true}
-use mathlib.Core.List.{List, [], _∷_, _++_, map, flatMap, append-nil, List·Memᴰ as Mem}
+use mathlib.Core.Path.{_≡_, refl, sym, ap, ap₂, _∙_}
+use mathlib.Core.Bool.{Bool, true, false, _&&_}
+use mathlib.Core.List.{List, [], _∷_, map, flatMap, append-nil, List·Memᴰ as Mem}
 use lib.ListN.{length, getD, drop, drop-of-length-le, length-map}
 use lib.Seq.{drop-cons}
 use lib.Dec.{eqb}
@@ -18,12 +18,12 @@ use Rattle.spec.specs.declared.Solution.{Solution}
 use Rattle.spec.specs.declared.Verdict.{Verdict}
 use Rattle.spec.specs.declared.Verdict.the-variants.{Accepted, Refused as RefusedBook}
 use Rattle.spec.specs.declared.Refusal.{Refusal}
-use Rattle.spec.specs.Limits.{maxEdges, solutionSize}
+use Rattle.spec.specs.Limits.{maxEdges}
 use Rattle.spec.specs.Basics.{if_then_else_, filter, range, sameList}
-use Rattle.spec.specs.Book.{segments, segmentAt, segmentCount, verdict}
-use Rattle.spec.specs.Edges.{sameAs, isFirst}
+use Rattle.spec.specs.Book.{verdict}
+use Rattle.spec.specs.Edges.{sameAs}
 use Rattle.spec.specs.Chains.{allowedKinds}
-use Rattle.spec.specs.Records.{solutionIn, solutionOf, solutionOctets, recordEdge}
+use Rattle.spec.specs.Records.{solutionIn, solutionOf, recordEdge}
 use Rattle.spec.specs.ByRecord.{edgesIn}
 use Rattle.spec.proofs.Lists.{length-range}
 use Rattle.graph.specs.declared.Found.{Found}

@@ -15,7 +15,7 @@ use Rattle.spec.specs.Book.{verdict}
 use Rattle.spec.specs.Chains.{IsChain}
 use Rattle.spec.specs.Records.{solutionOctets}
 use Rattle.spec.specs.Answers.{assembly, pathAnswer, refusedPath}
-use Rattle.spec.proofs.AnswerLaws.{assembly-chain, assembly-stranger, assembly-refused}
+use Rattle.spec.proofs.AnswerLaws.{assembly-chain, assembly-stranger}
 use Rattle.graph.specs.declared.Chain.{Chain}
 use Rattle.graph.specs.declared.Chain.the-variants.{Refused, Stranger, One, Two, Three}
 use Rattle.graph.specs.Recorded.{recordedChains, Recorded, saidBy, recordedOn, recorded}

@@ -18,7 +18,6 @@ use crate::Chain;
 use crate::Found;
 use crate::edges;
 use crate::slots;
-use crate::stored;
 use segment::PLACES;
 use spec::Edge;
 use spec::IsdAsn;
@@ -78,7 +77,7 @@ fn edge_of(book: &[u8], table: &[u16; PLACES], id: SolutionEdge) -> Found
     if !segment::is_first(book, id.position) {
         return Found::Nothing;
     }
-    stored::stored_edge(book, table, id)
+    edges::stored_edge(book, table, id)
 }
 
 // ---- edges in a row

@@ -13,7 +13,6 @@ mod chains;
 mod edges;
 mod search;
 mod slots;
-mod stored;
 
 pub use chains::chain_of;
 use spec::Edge;
