@@ -12,3 +12,7 @@ pub mod PushedLaws
 pub mod PushedRecords
 pub mod PushedTurns
 pub mod ListLaws
+pub mod NamedLaws
+pub mod NamedPlaces
+pub mod RecordedLaws
+pub mod NamedTurns
