@@ -22,7 +22,7 @@ use Rattle.spec.specs.Octets.{be16}
 use Rattle.spec.specs.Book.{Segment, segmentAt, segmentCount, sizesAt, headAt, verdict, entryCountAt, isdAsnAt, peerCount, peerEntryAt, peerOffset}
 use Rattle.spec.specs.Edges.{sameAs, sameVertex, asOf, leafAs, peerOf, inConstruction, edgeOf}
 use Rattle.spec.proofs.Membership.{not-both}
-use Rattle.spec.proofs.Vertices.{sameAs-eq}
+use Rattle.spec.proofs.Vertices.{sameAs-eq, sameVertex-eq, eq-sameVertex}
 use Rattle.spec.proofs.OnceLaws.{any-mem, segment-position}
 use Rattle.spec.proofs.BookLaws.{AcceptedBook, accepted, mem-range, entry-count, segment-length}
 use Rattle.segment.specs.Offsets.{offsetTable}
@@ -32,10 +32,10 @@ use Rattle.graph.specs.declared.edges.Link.{Link}
 use Rattle.spec.specs.Chains.{leaves}
 use Rattle.graph.specs.Lookup.{hasEnds, between, leavingOf}
 use Rattle.graph.specs.Leaving.{entryCount, peerCountOf, linkOf, isEntryOf, asStands, isLink, hasLink, peerStands, asUp, peerUp}
-use Rattle.graph.specs.Scan.{joins, firstWith, lastWith, entryWith, entryLinked, peerLinked, asEdgeAt, peerEdgeAt, downPeerEdge, coreEdge, coreEdgeFrom}
+use Rattle.graph.specs.Scan.{joins, firstWith, lastWith, entryWith, hasAs, entryLinked, peerLinked, asEdgeAt, peerEdgeAt, downPeerEdge, coreEdge, coreEdgeFrom}
 use Rattle.graph.specs.Ready.{Ready, Filled}
 use Rattle.graph.specs.Link.{endOf, samePeer}
-use Rattle.graph.proofs.LookupScan.{when, any-first, is-last}
+use Rattle.graph.proofs.LookupScan.{when, any-first, first-passes, is-last}
 use Rattle.graph.proofs.LookupLaws.{up-as, down-as, down-link, no-leaf, core-as, core-peering, core-leaving, none-stored, as-eq, eq-sameAs, as-not-peering}
 use Rattle.graph.proofs.LeavingLaws.{linked, peer-last, link-own}
 
@@ -228,6 +228,10 @@ linked-yes seg v i {q} p s = linked seg v i ∙ ap (ltb 0) (sym p) ∙ lt-ltb 0 
 pub linked-no : (seg : Segment) (v : Vertex) (i : ℕ) {q : ℕ} → q ≡ peerLinked seg v i → q ≤ 0 → hasLink seg v i ≡ false
 linked-no seg v i {q} p s = linked seg v i ∙ ap (ltb 0) (sym p) ∙ le-ltb 0 q s
 
+pub has-read : (seg : Segment) (a : IsdAsn) {n i : ℕ} → n ≡ entryCount seg → i ≡ entryWith seg a n → ltb i n ≡ hasAs seg a
+unfolding hasAs
+has-read seg a {n} p q = ap (λ j. ltb j n) q ∙ ap (λ m. ltb (entryWith seg a m) m) p
+
 -- ---- sizes and heads
 
 pub core-read : (b : List ℕ) (k : ℕ) {x : Sizes} → x ≡ sizesAt b → ltb k (x .cores) ≡ segmentAt b k .core
@@ -242,6 +246,11 @@ pub count-most : (b : List ℕ) → verdict b ≡ Accepted → (k : ℕ) → k <
 count-most b a k h = omega (arith, count-read b k, entry-count b (accepted b a) k h)
 
 -- ---- edges
+
+-- no AS edge at the leaf or past it
+as-past : (seg : Segment) (v w : Vertex) (i : ℕ) → entryCount seg - 1 ≤ i → [] ≡ asEdgeAt seg v w i
+unfolding asEdgeAt
+as-past seg v w i h = sym (ap (λ x. when x (edgeOf seg v w (entryCount seg - 1 - i) i 0)) (le-ltb i (entryCount seg - 1) h))
 
 module _ (b : List ℕ) (k : ℕ) where
   abbrev seg : Segment
@@ -285,8 +294,7 @@ module _ (b : List ℕ) (k : ℕ) where
         ∙ sym (ap (λ x. when x (edgeOf seg v w (entryCount seg - 1 - j) j 0)) (lt-ltb j (entryCount seg - 1) (omega arith)))
 
     pub as-none : (j : ℕ) → i ≡ j → n - 1 ≤ i → [] ≡ asEdgeAt seg v w j
-    unfolding asEdgeAt
-    as-none j e l = sym (ap (λ x. when x (edgeOf seg v w (entryCount seg - 1 - j) j 0)) (le-ltb j (entryCount seg - 1) (omega arith)))
+    as-none j e l = as-past seg v w j (omega arith)
 
     module _ (l : Vertex) (found : i ≡ entryLinked seg l n) where
       same : i ≡ entryLinked seg l (entryCount seg)
@@ -362,6 +370,46 @@ module _ (seg : Segment) {n : ℕ} (count : n ≡ entryCount seg) (none : n ≡ 
   pub empty-between : (v w : Vertex) → [] ≡ between seg v w
   unfolding between
   empty-between v w = sym (ap (filter (hasEnds v w)) (none-stored seg (sym count ∙ none)) ∙ unfold filter in refl)
+
+-- ---- an AS that no entry of a non-core segment has
+
+module _ (seg : Segment) (nc : seg .core ≡ false) (a : IsdAsn) (none : hasAs seg a ≡ false) where
+  other-entry : (i : ℕ) → i < entryCount seg → isEntryOf seg a i ≡ true → ⊥
+  unfolding hasAs entryWith
+  other-entry i h q =
+      let e : 0 + entryCount seg ≡ entryCount seg = omega arith in
+      not-both (any-mem (isEntryOf seg a) (range 0 (entryCount seg)) (mem-range 0 (entryCount seg) i (omega arith) (omega arith)) q)
+      (any-first (isEntryOf seg a) 0 (entryCount seg) ∙ ap (ltb (firstWith (isEntryOf seg a) 0 (entryCount seg))) e ∙ none)
+
+  other-leaf : 0 < entryCount seg → sameAs (leafAs seg) a ≡ false
+  other-leaf h = go (sameAs (leafAs seg) a) refl
+    where
+      go : (x : Bool) → sameAs (leafAs seg) a ≡ x → x ≡ false
+      go true q = absurd (other-entry (entryCount seg - 1) (omega arith) (unfold isEntryOf in ap (λ c. sameAs c a) (leaf-is seg) ∙ q))
+      go false q = refl
+
+  past-leaf : entryCount seg - 1 ≤ entryWith seg a (entryCount seg - 1)
+  unfolding entryWith
+  past-leaf = go (ltb (firstWith (isEntryOf seg a) 0 (entryCount seg - 1)) (entryCount seg - 1)) refl
+    where
+      go : (x : Bool) → ltb (firstWith (isEntryOf seg a) 0 (entryCount seg - 1)) (entryCount seg - 1) ≡ x
+          → entryCount seg - 1 ≤ firstWith (isEntryOf seg a) 0 (entryCount seg - 1)
+      go true q =
+          let h : firstWith (isEntryOf seg a) 0 (entryCount seg - 1) < entryCount seg - 1 = ltb-true _ _ q in
+          absurd (other-entry _ (omega arith) (first-passes (isEntryOf seg a) 0 (entryCount seg - 1) (omega arith)))
+      go false q = ltb-false _ _ q
+
+  -- no edge arrives there
+  pub none-arrives : (v : Vertex) → between seg v (AS a) ≡ []
+  none-arrives v = go (ltb 0 (entryCount seg)) refl (sameVertex (AS (leafAs seg)) v) refl
+    where
+      go : (x : Bool) → ltb 0 (entryCount seg) ≡ x → (y : Bool) → sameVertex (AS (leafAs seg)) v ≡ y → between seg v (AS a) ≡ []
+      go false p y q = let z : entryCount seg ≤ 0 = ltb-false _ _ p in sym (empty-between seg refl (omega arith) v (AS a))
+      go true p true q =
+          sym (from-as seg a nc (entryCount seg) refl (other-leaf (ltb-true _ _ p)) v (sym (sameVertex-eq _ _ q)))
+          ∙ sym (as-past seg v (AS a) (entryWith seg a (entryCount seg - 1)) past-leaf)
+      go true p false q =
+          sym (from-none seg a nc (entryCount seg) refl (other-leaf (ltb-true _ _ p)) v (λ e. not-both (eq-sameVertex _ _ e) q))
 
 -- ---- a core segment
 

@@ -45,7 +45,7 @@ module _ {A : Type 0} (f : Segment → List A) (b : List ℕ) where
       let e : segments b ≡ map (segmentAt b) (range 0 (segmentCount b)) = unfold segments in refl in
       ap (λ l. flatMap f (filter (isFirst (segments b)) l)) e ∙ over-from 0 (segmentCount b)
 
-  -- a loop over positions up to n: a turn at a first of its equals, one at another, and the end
+  -- a loop over positions up to n: a turn at a first of its equals, one at another or where nothing is found, and the end
   pub over-turn : (k n : ℕ) → k < n → isFirst (segments b) (segmentAt b k) ≡ true
       → overFirsts f b k (n - k) ≡ f (segmentAt b k) ++ overFirsts f b (k + 1) (n - (k + 1))
   unfolding overFirsts
@@ -53,12 +53,16 @@ module _ {A : Type 0} (f : Segment → List A) (b : List ℕ) where
       let e : n - k ≡ suc (n - (k + 1)) = omega arith in
       ap (overFirsts f b k) e ∙ ap (λ t. (if t then f (segmentAt b k) else []) ++ overFirsts f b (k + 1) (n - (k + 1))) q
 
-  pub over-pass : (k n : ℕ) → k < n → isFirst (segments b) (segmentAt b k) ≡ false
+  pub over-skip : (k n : ℕ) → k < n → (isFirst (segments b) (segmentAt b k) ≡ true → f (segmentAt b k) ≡ [])
       → overFirsts f b k (n - k) ≡ overFirsts f b (k + 1) (n - (k + 1))
   unfolding overFirsts
-  over-pass k n h q =
+  over-skip k n h none =
       let e : n - k ≡ suc (n - (k + 1)) = omega arith in
-      ap (overFirsts f b k) e ∙ ap (λ t. (if t then f (segmentAt b k) else []) ++ overFirsts f b (k + 1) (n - (k + 1))) q
+      ap (overFirsts f b k) e ∙ ap (λ l. l ++ overFirsts f b (k + 1) (n - (k + 1))) (go (isFirst (segments b) (segmentAt b k)) refl)
+    where
+      go : (t : Bool) → isFirst (segments b) (segmentAt b k) ≡ t → (if t then f (segmentAt b k) else []) ≡ []
+      go true q = none q
+      go false q = refl
 
   pub over-end : (k n : ℕ) → n ≤ k → overFirsts f b k (n - k) ≡ []
   unfolding overFirsts

@@ -12,14 +12,17 @@ use Rattle.spec.specs.declared.IsdAsn.{IsdAsn}
 use Rattle.spec.specs.declared.Vertex.the-variants.{AS}
 use Rattle.spec.specs.declared.Edge.{Edge}
 use Rattle.spec.specs.Basics.{if_then_else_, range}
-use Rattle.spec.specs.Book.{Segment, segmentAt, segmentCount, cores}
-use Rattle.spec.specs.Edges.{sameAs, sameVertex, leafAs}
+use Rattle.spec.specs.Book.{Segment, segments, segmentAt, segmentCount, cores}
+use Rattle.spec.specs.Edges.{sameAs, sameVertex, leafAs, isFirst}
 use Rattle.graph.specs.declared.Found.{Found}
 use Rattle.graph.specs.declared.Found.the-variants.{Edge as FoundEdge, Nothing}
 use Rattle.graph.specs.Lookup.{between, leavingOf, foundEdges}
 use Rattle.graph.specs.Leaving.{entryCount, peerCountOf, asUp, peerUp, upsAt, leavingIn}
+use Rattle.graph.specs.Scan.{hasAs}
+use Rattle.graph.specs.Prepared.{classOf}
 use Rattle.graph.specs.Search.{overFirsts, pair, triple, pairsIn, triplesIn, acrossWith, chainsWith, chainsFrom, chainsIn, foundChains}
 use Rattle.spec.proofs.Lists.{flatMap-append}
+use Rattle.graph.proofs.LookupReads.{none-arrives}
 use Rattle.graph.proofs.SearchLists.{range-turn, range-end}
 use Rattle.graph.proofs.SearchLaws.{over-split, over-none, from-arrived, from-onward}
 
@@ -32,6 +35,43 @@ core-at b k h = lt-ltb k (cores b) h
 other-at : (b : List ℕ) (k : ℕ) → cores b ≤ k → segmentAt b k .core ≡ false
 unfolding segmentAt
 other-at b k h = le-ltb k (cores b) h
+
+-- ---- the class of a position
+
+module _ (b : List ℕ) (dst : IsdAsn) (k : ℕ) {x : ℕ} (class : x ≡ classOf b dst k) where
+  pub class-first : 0 < x → isFirst (segments b) (segmentAt b k) ≡ true
+  unfolding classOf
+  class-first h = go (isFirst (segments b) (segmentAt b k)) class
+    where
+      go : (t : Bool) → x ≡ (if t then (if hasAs (segmentAt b k) dst then 2 else 1) else 0) → t ≡ true
+      go true q = refl
+      go false q = absurd (omega arith)
+
+  -- not the first of its equals, or no entry has the destination's AS
+  pub class-low : x ≤ 1 → isFirst (segments b) (segmentAt b k) ≡ true → hasAs (segmentAt b k) dst ≡ false
+  unfolding classOf
+  class-low h t = go (hasAs (segmentAt b k) dst) (class ∙ ap (λ s. if s then (if hasAs (segmentAt b k) dst then 2 else 1) else 0) t)
+    where
+      go : (s : Bool) → x ≡ (if s then 2 else 1) → s ≡ false
+      go true q = absurd (omega arith)
+      go false q = refl
+
+  pub class-none : {A : Type 0} → x ≤ 0 → isFirst (segments b) (segmentAt b k) ≡ true → A
+  unfolding classOf
+  class-none h t = absurd (go (hasAs (segmentAt b k) dst) (class ∙ ap (λ s. if s then (if hasAs (segmentAt b k) dst then 2 else 1) else 0) t))
+    where
+      go : (s : Bool) → x ≡ (if s then 2 else 1) → ⊥
+      go true q = omega arith
+      go false q = omega arith
+
+module _ (b : List ℕ) (dst : IsdAsn) (k : ℕ) {t : Bool} (first : t ≡ isFirst (segments b) (segmentAt b k)) where
+  pub class-other : t ≡ false → 0 ≡ classOf b dst k
+  unfolding classOf
+  class-other p = sym (ap (λ x. if x then (if hasAs (segmentAt b k) dst then 2 else 1) else 0) (sym first ∙ p))
+
+  pub class-by : {u : Bool} → t ≡ true → u ≡ hasAs (segmentAt b k) dst → (if u then 2 else 1) ≡ classOf b dst k
+  unfolding classOf
+  class-by p q = sym (ap₂ (λ x y. if x then (if y then 2 else 1) else 0) (sym first ∙ p) (sym q))
 
 -- ---- what is found
 
@@ -57,6 +97,9 @@ module _ (b : List ℕ) (dst : IsdAsn) (e : Edge) (k : ℕ) where
       → triplesIn b dst e f (segmentAt b k) ≡ []
   triple-nothing f r h p q = triples-other f h ∙ ap (map (triple b dst e f)) (found-nothing r _ p q)
 
+  pub triple-none : (f : Edge) → cores b ≤ k → hasAs (segmentAt b k) dst ≡ false → triplesIn b dst e f (segmentAt b k) ≡ []
+  triple-none f h q = triples-other f h ∙ ap (map (triple b dst e f)) (none-arrives (segmentAt b k) (other-at b k h) dst q (f .dst))
+
   pairs-other : cores b ≤ k → chainsWith b dst e (segmentAt b k) ≡ map (pair b dst e) (between (segmentAt b k) (e .dst) (AS dst))
   unfolding chainsWith pairsIn
   pairs-other h =
@@ -71,6 +114,9 @@ module _ (b : List ℕ) (dst : IsdAsn) (e : Edge) (k : ℕ) where
   pub pair-nothing : (r : Found) → cores b ≤ k → foundEdges r ≡ between (segmentAt b k) (e .dst) (AS dst) → r ≡ Nothing
       → chainsWith b dst e (segmentAt b k) ≡ []
   pair-nothing r h p q = pairs-other h ∙ ap (map (pair b dst e)) (found-nothing r _ p q)
+
+  pub pair-none : cores b ≤ k → hasAs (segmentAt b k) dst ≡ false → chainsWith b dst e (segmentAt b k) ≡ []
+  pair-none h q = pairs-other h ∙ ap (map (pair b dst e)) (none-arrives (segmentAt b k) (other-at b k h) dst q (e .dst))
 
   across-core : k < cores b → e .core ≡ false → chainsWith b dst e (segmentAt b k) ≡ flatMap (acrossWith b dst e) (leavingOf (e .dst) (segmentAt b k))
   unfolding chainsWith

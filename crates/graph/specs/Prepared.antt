@@ -2,21 +2,27 @@
 -- Assumes nothing.
 use Prim.Native.Nat.{ℕ, _≤_, _<_}
 use mathlib.Core.Path.{_≡_}
-use mathlib.Core.Bool.{Bool, false}
 use mathlib.Core.List.{List}
 use lib.ListN.{getD}
+use Rattle.spec.specs.declared.IsdAsn.{IsdAsn}
 use Rattle.spec.specs.Limits.{maxSegments}
+use Rattle.spec.specs.Basics.{if_then_else_}
 use Rattle.spec.specs.Book.{segments, segmentAt, segmentCount, cores}
 use Rattle.spec.specs.Edges.{isFirst}
+use Rattle.graph.specs.Scan.{hasAs}
 use Rattle.graph.specs.Ready.{Ready}
 
--- a flag for each position: the segment there is the first of its equals
-abbrev pub Flagged : List ℕ → List Bool → Type 0
-Flagged b flags = (k : ℕ) → k < segmentCount b → getD flags k false ≡ isFirst (segments b) (segmentAt b k)
+-- the class of a position: 0 where its segment is not the first of its equals; where it is, 2 if an entry has the destination's AS, 1 if none has.
+-- A non-core segment without such an entry has no edge that arrives.
+unfoldable pub classOf : List ℕ → IsdAsn → ℕ → ℕ
+classOf b dst k = if isFirst (segments b) (segmentAt b k) then (if hasAs (segmentAt b k) dst then 2 else 1) else 0
 
-pub record Prepared (b t : List ℕ) (flags : List Bool) (c n : ℕ) : Type 0 where
+abbrev pub Classed : List ℕ → IsdAsn → List ℕ → Type 0
+Classed b dst classes = (k : ℕ) → k < segmentCount b → getD classes k 0 ≡ classOf b dst k
+
+pub record Prepared (b t classes : List ℕ) (dst : IsdAsn) (c n : ℕ) : Type 0 where
   pub ready : Ready b t
-  pub first : Flagged b flags
+  pub first : Classed b dst classes
   pub cores : c ≡ cores b
   pub count : n ≡ segmentCount b
   pub within : c ≤ n

@@ -33,6 +33,10 @@ module _ (seg : Segment) where
   unfoldable pub entryWith : IsdAsn → ℕ → ℕ
   entryWith a n = firstWith (isEntryOf seg a) 0 n
 
+  -- an entry has an AS
+  unfoldable pub hasAs : IsdAsn → Bool
+  hasAs a = ltb (entryWith a (entryCount seg)) (entryCount seg)
+
   -- the first of the entries below n that has a peer with a peering end; n where none has
   unfoldable pub entryLinked : Vertex → ℕ → ℕ
   entryLinked v n = firstWith (hasLink seg v) 0 n

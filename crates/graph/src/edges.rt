@@ -11,7 +11,7 @@ ghost use Rattle.spec.specs.Book.{segmentAt, segmentCount, verdict, peerCount, 
 ghost use Rattle.spec.specs.Edges.{sameAs, sameVertex, asOf, leafAs, inConstruction};
 ghost use Rattle.graph.specs.Lookup.{between, leavingOf, foundEdges};
 ghost use Rattle.graph.specs.Leaving.{entryCount, peerCountOf, linkOf, asUp, peerUp};
-ghost use Rattle.graph.specs.Scan.{joins, entryWith, entryLinked, peerLinked, asEdgeAt, downPeerEdge};
+ghost use Rattle.graph.specs.Scan.{joins, entryWith, hasAs, entryLinked, peerLinked, asEdgeAt, downPeerEdge};
 ghost use Rattle.graph.specs.Link.{endOf, farEndOf, samePeer};
 ghost use Rattle.graph.specs.Ready.{Ready, Filled};
 ghost use Rattle.graph.specs.Identity.{sameIdentity, identified, asNamed, peerNamed, named};
@@ -175,6 +175,16 @@ fn find_as(book: &[u8], table: &[u16; PLACES], k: u8, a: IsdAsn, n: u8) -> u8
         i += 1;
     }
     i
+}
+
+// An entry has an AS.
+pub(crate) fn has_as(book: &[u8], table: &[u16; PLACES], k: u8, a: IsdAsn) -> bool
+    requires { ⌜ Ready (now book) (now table) ⌝ }
+    requires { ⌜ k < segmentCount (now book) ⌝ }
+    ensures { λ r. ⌜ r ≡ hasAs (segmentAt (now (book .entry)) k) a ⌝ }
+{
+    let n = count_of(book, k);
+    find_as(book, table, k, a, n) < n
 }
 
 // ---- peers

@@ -4,18 +4,16 @@ ghost use mathlib.Core.Path.{_≡_};
 ghost use mathlib.Core.Bool.{false};
 ghost use mathlib.Core.List.{flatMap};
 ghost use Prim.Native.Nat.{ℕ, _-_, _≤_, _<_};
-ghost use lib.ListN.{getD};
 ghost use Rattle.spec.specs.declared.Verdict.the-variants.{Accepted};
 ghost use Rattle.spec.specs.Limits.{maxSegments};
 ghost use Rattle.spec.specs.Basics.{range};
 ghost use Rattle.spec.specs.Book.{segmentAt, segments, segmentCount, cores};
-ghost use Rattle.spec.specs.Edges.{isFirst};
 ghost use Rattle.graph.specs.Lookup.{foundEdges};
 ghost use Rattle.graph.specs.Leaving.{entryCount, peerCountOf, peerUp, upsAt};
 ghost use Rattle.graph.specs.Search.{overFirsts, chainsFrom, triplesIn, acrossWith, chainsWith, chainsIn, foundChains};
 ghost use Rattle.graph.specs.Pushed.{Room, Pushes};
 ghost use Rattle.graph.specs.Ready.{Ready};
-ghost use Rattle.graph.specs.Prepared.{Flagged, Prepared};
+ghost use Rattle.graph.specs.Prepared.{classOf, Classed, Prepared};
 use crate::Found;
 use crate::edges;
 use crate::edges::PLACES;
@@ -63,14 +61,14 @@ fn triple_in(
 fn triples(
     book: &[u8],
     table: &[u16; PLACES],
-    flags: &[bool; Limits::SEGMENTS],
+    classes: &[u8; Limits::SEGMENTS],
     q: Query,
     e: Edge,
     f: Edge,
     out: &mut [u8],
     start: usize,
 ) -> usize
-    requires { ⌜ Prepared (now book) (now table) (now flags) (q .cores) (q .count) ⌝ }
+    requires { ⌜ Prepared (now book) (now table) (now classes) (q .dst) (q .cores) (q .count) ⌝ }
     requires { ⌜ Room (q .slots) start (now out) ⌝ }
     ensures { λ r. ⌜ Pushes (q .slots) (start, now (out .entry)) (r, now (out .exit)) (overFirsts (triplesIn (now (book .entry)) (q .dst) e f) (now (book .entry)) (q .cores) (q .count - q .cores)) ⌝ }
 {
@@ -80,7 +78,7 @@ fn triples(
         if q.slots < n {
             return n;
         }
-        if flags[k as usize] {
+        if 1 < classes[k as usize] {
             n = triple_in(book, table, q, k, e, f, out, n);
         }
         k += 1;
@@ -94,14 +92,14 @@ fn triples(
 fn across_with(
     book: &[u8],
     table: &[u16; PLACES],
-    flags: &[bool; Limits::SEGMENTS],
+    classes: &[u8; Limits::SEGMENTS],
     q: Query,
     e: Edge,
     f: Edge,
     out: &mut [u8],
     n: usize,
 ) -> usize
-    requires { ⌜ Prepared (now book) (now table) (now flags) (q .cores) (q .count) ⌝ }
+    requires { ⌜ Prepared (now book) (now table) (now classes) (q .dst) (q .cores) (q .count) ⌝ }
     requires { ⌜ Room (q .slots) n (now out) ⌝ }
     ensures { λ r. ⌜ Pushes (q .slots) (n, now (out .entry)) (r, now (out .exit)) (acrossWith (now (book .entry)) (q .dst) e f) ⌝ }
 {
@@ -110,21 +108,21 @@ fn across_with(
     if edges::same_vertex(to, Vertex::AS(dst)) {
         return slots::push_two(out, q.slots, n, e, f);
     }
-    triples(book, table, flags, q, e, f, out, n)
+    triples(book, table, classes, q, e, f, out, n)
 }
 
 // The same for the edge of the core segment at k that follows.
 fn across_in(
     book: &[u8],
     table: &[u16; PLACES],
-    flags: &[bool; Limits::SEGMENTS],
+    classes: &[u8; Limits::SEGMENTS],
     q: Query,
     k: u8,
     e: Edge,
     out: &mut [u8],
     n: usize,
 ) -> usize
-    requires { ⌜ Prepared (now book) (now table) (now flags) (q .cores) (q .count) ⌝ }
+    requires { ⌜ Prepared (now book) (now table) (now classes) (q .dst) (q .cores) (q .count) ⌝ }
     requires { ⌜ k < q .cores ⌝ }
     requires { ⌜ e .core ≡ false ⌝ }
     requires { ⌜ Room (q .slots) n (now out) ⌝ }
@@ -133,7 +131,7 @@ fn across_in(
     let from = e.dst;
     let found = edges::core_leaving(book, table, k, from);
     match found {
-        Found::Edge(f) => across_with(book, table, flags, q, e, f, out, n),
+        Found::Edge(f) => across_with(book, table, classes, q, e, f, out, n),
         Found::Nothing => n,
     }
 }
@@ -141,13 +139,13 @@ fn across_in(
 fn across(
     book: &[u8],
     table: &[u16; PLACES],
-    flags: &[bool; Limits::SEGMENTS],
+    classes: &[u8; Limits::SEGMENTS],
     q: Query,
     e: Edge,
     out: &mut [u8],
     start: usize,
 ) -> usize
-    requires { ⌜ Prepared (now book) (now table) (now flags) (q .cores) (q .count) ⌝ }
+    requires { ⌜ Prepared (now book) (now table) (now classes) (q .dst) (q .cores) (q .count) ⌝ }
     requires { ⌜ e .core ≡ false ⌝ }
     requires { ⌜ Room (q .slots) start (now out) ⌝ }
     ensures { λ r. ⌜ Pushes (q .slots) (start, now (out .entry)) (r, now (out .exit)) (overFirsts (chainsWith (now (book .entry)) (q .dst) e) (now (book .entry)) 0 (q .cores)) ⌝ }
@@ -158,8 +156,8 @@ fn across(
         if q.slots < n {
             return n;
         }
-        if flags[k as usize] {
-            n = across_in(book, table, flags, q, k, e, out, n);
+        if 0 < classes[k as usize] {
+            n = across_in(book, table, classes, q, k, e, out, n);
         }
         k += 1;
     }
@@ -193,13 +191,13 @@ fn pair_in(
 fn pairs(
     book: &[u8],
     table: &[u16; PLACES],
-    flags: &[bool; Limits::SEGMENTS],
+    classes: &[u8; Limits::SEGMENTS],
     q: Query,
     e: Edge,
     out: &mut [u8],
     start: usize,
 ) -> usize
-    requires { ⌜ Prepared (now book) (now table) (now flags) (q .cores) (q .count) ⌝ }
+    requires { ⌜ Prepared (now book) (now table) (now classes) (q .dst) (q .cores) (q .count) ⌝ }
     requires { ⌜ Room (q .slots) start (now out) ⌝ }
     ensures { λ r. ⌜ Pushes (q .slots) (start, now (out .entry)) (r, now (out .exit)) (overFirsts (chainsWith (now (book .entry)) (q .dst) e) (now (book .entry)) (q .cores) (q .count - q .cores)) ⌝ }
 {
@@ -209,7 +207,7 @@ fn pairs(
         if q.slots < n {
             return n;
         }
-        if flags[k as usize] {
+        if 1 < classes[k as usize] {
             n = pair_in(book, table, q, k, e, out, n);
         }
         k += 1;
@@ -223,13 +221,13 @@ fn pairs(
 fn chains_from(
     book: &[u8],
     table: &[u16; PLACES],
-    flags: &[bool; Limits::SEGMENTS],
+    classes: &[u8; Limits::SEGMENTS],
     q: Query,
     e: Edge,
     out: &mut [u8],
     n: usize,
 ) -> usize
-    requires { ⌜ Prepared (now book) (now table) (now flags) (q .cores) (q .count) ⌝ }
+    requires { ⌜ Prepared (now book) (now table) (now classes) (q .dst) (q .cores) (q .count) ⌝ }
     requires { ⌜ Room (q .slots) n (now out) ⌝ }
     ensures { λ r. ⌜ Pushes (q .slots) (n, now (out .entry)) (r, now (out .exit)) (chainsFrom (now (book .entry)) (q .dst) e) ⌝ }
 {
@@ -239,28 +237,28 @@ fn chains_from(
         return slots::push_one(out, q.slots, n, e);
     }
     if e.core {
-        return pairs(book, table, flags, q, e, out, n);
+        return pairs(book, table, classes, q, e, out, n);
     }
-    let m = across(book, table, flags, q, e, out, n);
-    pairs(book, table, flags, q, e, out, m)
+    let m = across(book, table, classes, q, e, out, n);
+    pairs(book, table, classes, q, e, out, m)
 }
 
 // The same for an edge that may not be there.
 fn chains_of(
     book: &[u8],
     table: &[u16; PLACES],
-    flags: &[bool; Limits::SEGMENTS],
+    classes: &[u8; Limits::SEGMENTS],
     q: Query,
     found: Found,
     out: &mut [u8],
     n: usize,
 ) -> usize
-    requires { ⌜ Prepared (now book) (now table) (now flags) (q .cores) (q .count) ⌝ }
+    requires { ⌜ Prepared (now book) (now table) (now classes) (q .dst) (q .cores) (q .count) ⌝ }
     requires { ⌜ Room (q .slots) n (now out) ⌝ }
     ensures { λ r. ⌜ Pushes (q .slots) (n, now (out .entry)) (r, now (out .exit)) (flatMap (chainsFrom (now (book .entry)) (q .dst)) (foundEdges found)) ⌝ }
 {
     match found {
-        Found::Edge(e) => chains_from(book, table, flags, q, e, out, n),
+        Found::Edge(e) => chains_from(book, table, classes, q, e, out, n),
         Found::Nothing => n,
     }
 }
@@ -269,14 +267,14 @@ fn chains_of(
 fn peer_chains(
     book: &[u8],
     table: &[u16; PLACES],
-    flags: &[bool; Limits::SEGMENTS],
+    classes: &[u8; Limits::SEGMENTS],
     q: Query,
     k: u8,
     i: u8,
     out: &mut [u8],
     start: usize,
 ) -> usize
-    requires { ⌜ Prepared (now book) (now table) (now flags) (q .cores) (q .count) ⌝ }
+    requires { ⌜ Prepared (now book) (now table) (now classes) (q .dst) (q .cores) (q .count) ⌝ }
     requires { ⌜ k < segmentCount (now book) ⌝ }
     requires { ⌜ i < entryCount (segmentAt (now book) k) ⌝ }
     requires { ⌜ Room (q .slots) start (now out) ⌝ }
@@ -290,7 +288,7 @@ fn peer_chains(
             return n;
         }
         let found = edges::peer_up(book, table, k, i, p);
-        n = chains_of(book, table, flags, q, found, out, n);
+        n = chains_of(book, table, classes, q, found, out, n);
         p += 1;
     }
     n
@@ -300,14 +298,14 @@ fn peer_chains(
 fn leaf_chains(
     book: &[u8],
     table: &[u16; PLACES],
-    flags: &[bool; Limits::SEGMENTS],
+    classes: &[u8; Limits::SEGMENTS],
     q: Query,
     k: u8,
     count: u8,
     out: &mut [u8],
     start: usize,
 ) -> usize
-    requires { ⌜ Prepared (now book) (now table) (now flags) (q .cores) (q .count) ⌝ }
+    requires { ⌜ Prepared (now book) (now table) (now classes) (q .dst) (q .cores) (q .count) ⌝ }
     requires { ⌜ k < segmentCount (now book) ⌝ }
     requires { ⌜ count ≡ entryCount (segmentAt (now book) k) ⌝ }
     requires { ⌜ Room (q .slots) start (now out) ⌝ }
@@ -320,8 +318,8 @@ fn leaf_chains(
             return n;
         }
         let found = edges::as_up(book, table, k, i);
-        n = chains_of(book, table, flags, q, found, out, n);
-        n = peer_chains(book, table, flags, q, k, i, out, n);
+        n = chains_of(book, table, classes, q, found, out, n);
+        n = peer_chains(book, table, classes, q, k, i, out, n);
         i += 1;
     }
     n
@@ -333,14 +331,14 @@ fn leaf_chains(
 fn chains_in(
     book: &[u8],
     table: &[u16; PLACES],
-    flags: &[bool; Limits::SEGMENTS],
+    classes: &[u8; Limits::SEGMENTS],
     q: Query,
     k: u8,
     src: IsdAsn,
     out: &mut [u8],
     n: usize,
 ) -> usize
-    requires { ⌜ Prepared (now book) (now table) (now flags) (q .cores) (q .count) ⌝ }
+    requires { ⌜ Prepared (now book) (now table) (now classes) (q .dst) (q .cores) (q .count) ⌝ }
     requires { ⌜ k < segmentCount (now book) ⌝ }
     requires { ⌜ Room (q .slots) n (now out) ⌝ }
     ensures { λ r. ⌜ Pushes (q .slots) (n, now (out .entry)) (r, now (out .exit)) (chainsIn (now (book .entry)) (q .dst) src (segmentAt (now (book .entry)) k)) ⌝ }
@@ -351,25 +349,25 @@ fn chains_in(
     }
     if k < q.cores {
         let found = edges::core_leaving(book, table, k, Vertex::AS(src));
-        return chains_of(book, table, flags, q, found, out, n);
+        return chains_of(book, table, classes, q, found, out, n);
     }
     let leaf = edges::leaf_as(book, table, k);
     if edges::same_as(leaf, src) {
-        return leaf_chains(book, table, flags, q, k, count as u8, out, n);
+        return leaf_chains(book, table, classes, q, k, count as u8, out, n);
     }
     let found = edges::between(book, table, k, Vertex::AS(src), leaf);
-    chains_of(book, table, flags, q, found, out, n)
+    chains_of(book, table, classes, q, found, out, n)
 }
 
 fn all_chains(
     book: &[u8],
     table: &[u16; PLACES],
-    flags: &[bool; Limits::SEGMENTS],
+    classes: &[u8; Limits::SEGMENTS],
     q: Query,
     src: IsdAsn,
     out: &mut [u8],
 ) -> usize
-    requires { ⌜ Prepared (now book) (now table) (now flags) (q .cores) (q .count) ⌝ }
+    requires { ⌜ Prepared (now book) (now table) (now classes) (q .dst) (q .cores) (q .count) ⌝ }
     requires { ⌜ Room (q .slots) 0 (now out) ⌝ }
     ensures { λ r. ⌜ Pushes (q .slots) (0, now (out .entry)) (r, now (out .exit)) (overFirsts (chainsIn (now (book .entry)) (q .dst) src) (now (book .entry)) 0 (q .count)) ⌝ }
 {
@@ -379,26 +377,42 @@ fn all_chains(
         if q.slots < n {
             return n;
         }
-        if flags[k as usize] {
-            n = chains_in(book, table, flags, q, k, src, out, n);
+        if 0 < classes[k as usize] {
+            n = chains_in(book, table, classes, q, k, src, out, n);
         }
         k += 1;
     }
     n
 }
 
-// Which positions hold the first of their equals.
-fn first_flags(book: &[u8], count: u8) -> [bool; Limits::SEGMENTS]
-    requires { ⌜ (count ≡ segmentCount (now book)) × (count ≤ maxSegments) ⌝ }
-    ensures { λ r. ⌜ Flagged (now (book .entry)) r ⌝ }
+// 0 where the segment at k is not the first of its equals; where it is, 2 if an entry has the AS `dst`, else 1. A
+// non-core segment of class 1 has no edge that arrives, so that the loops over last edges pass over it.
+fn class_of(book: &[u8], table: &[u16; PLACES], k: u8, dst: IsdAsn) -> u8
+    requires { ⌜ Ready (now book) (now table) ⌝ }
+    requires { ⌜ k < segmentCount (now book) ⌝ }
+    ensures { λ r. ⌜ r ≡ classOf (now (book .entry)) dst k ⌝ }
 {
-    let mut flags = [false; Limits::SEGMENTS];
+    if !segment::is_first(book, k) {
+        return 0;
+    }
+    if edges::has_as(book, table, k, dst) {
+        return 2;
+    }
+    1
+}
+
+fn classes_of(book: &[u8], table: &[u16; PLACES], count: u8, dst: IsdAsn) -> [u8; Limits::SEGMENTS]
+    requires { ⌜ Ready (now book) (now table) ⌝ }
+    requires { ⌜ (count ≡ segmentCount (now book)) × (count ≤ maxSegments) ⌝ }
+    ensures { λ r. ⌜ Classed (now (book .entry)) dst r ⌝ }
+{
+    let mut classes = [0u8; Limits::SEGMENTS];
     let mut k: u8 = 0;
     while k < count {
-        flags[k as usize] = segment::is_first(book, k);
+        classes[k as usize] = class_of(book, table, k, dst);
         k += 1;
     }
-    flags
+    classes
 }
 
 // Pushes all chains from `src` to `dst` of an accepted book into the slots.
@@ -419,12 +433,12 @@ pub(crate) fn search(
     }
     let sizes = segment::sizes(book);
     let count = (sizes.cores + sizes.others) as u8;
-    let flags = first_flags(book, count);
+    let classes = classes_of(book, table, count, dst);
     let q = Query {
         cores: sizes.cores as u8,
         count: count,
         dst: dst,
         slots: slots,
     };
-    all_chains(book, table, &flags, q, src, out)
+    all_chains(book, table, &classes, q, src, out)
 }

@@ -7,18 +7,19 @@ use mathlib.Core.Path.{_≡_, refl, sym, ap, _∙_}
 use lib.ListN.{length}
 use Rattle.graph.specs.Search.{overFirsts, chainsWith}
 use Rattle.graph.proofs.PushedTurns.{Going, going-start, going-end, going-full, turn-push, turn-pass}
-use Rattle.graph.proofs.SearchLaws.{over-turn, over-pass, over-end}
+use Rattle.graph.proofs.SearchTurns.{class-first, class-low, pair-none}
+use Rattle.graph.proofs.SearchLaws.{over-turn, over-skip, over-end}
 use borrow.Author.Needs.{needs}
 use Rattle.graph.proofs.search.pairs.Statement.{statement}
 use Rattle.graph.proofs.search.pairs.Tie as tie
 
 abbrev Inv-loop : tie.InvT-loop
-Inv-loop book table flags q e out₀ start n₀ k₀ out n k =
+Inv-loop book table classes q e out₀ start n₀ k₀ out n k =
     (q .cores ≤ k) × (k ≤ q .count) × (length out ≡ length out₀)
     × Going (q .slots) (start, out₀) (n, out) (overFirsts (chainsWith book (q .dst) e) book (q .cores) (q .count - q .cores)) (overFirsts (chainsWith book (q .dst) e) book k (q .count - k))
 
 abbrev μ-loop : tie.MeasureT-loop
-μ-loop book table flags q e out₀ start n₀ k₀ out n k = q .count - k
+μ-loop book table classes q e out₀ start n₀ k₀ out n k = q .count - k
 
 loop-holds : tie.Need-loop-holds Inv-loop μ-loop
 loop-holds c = (omega arith, omega arith, refl, going-start (omega arith))
@@ -40,8 +41,8 @@ loop-again c =
       omega arith,
       ⊎-elim (λ w. omega (arith, ap length (w .5))) (λ w. omega (arith, ap length (w .1))) (c .if3 .came),
       ⊎-elim
-          (λ w. turn-push (l .inv .3) (over-turn _ _ _ _ (omega arith) (sym (p .first (l .k) (omega arith)) ∙ w .0 .taken)) (w .2 .ensures) (w .6) (w .5))
-          (λ w. turn-pass (l .inv .3) (over-pass _ _ _ _ (omega arith) (sym (p .first (l .k) (omega arith)) ∙ w .0 .left)) (w .2) (w .1))
+          (λ w. turn-push (l .inv .3) (over-turn _ _ _ _ (omega arith) (class-first _ _ _ (p .first (l .k) (omega arith)) (omega arith))) (w .2 .ensures) (w .6) (w .5))
+          (λ w. turn-pass (l .inv .3) (over-skip _ _ _ _ (omega arith) (λ t. pair-none _ _ _ _ (omega arith) (class-low _ _ _ (p .first (l .k) (omega arith)) (omega arith) t))) (w .2) (w .1))
           (c .if3 .came),
     )
 

@@ -1,4 +1,4 @@
--- Equal ends have no chain; else the positions are counted and flagged, and all are searched.
+-- Equal ends have no chain; else the positions are counted and classed, and all are searched.
 -- Assumes nothing.
 use native.Mathlib.Omega.{arith}
 use Rattle.graph.proofs.PushedTurns.{pushes-as, pushes-none}
@@ -23,11 +23,11 @@ cast-count c =
     let z = counted _ (p .0 .ok) _ (c .before .sizes .ensures) in
     omega arith
 
-first-flags-requires : tie.Need-first-flags-requires
-first-flags-requires c κs =
+classes-of-requires : tie.Need-classes-of-requires
+classes-of-requires c κs =
     let p = c .before .before .before .before .before .before .pre in
     let z = counted _ (p .0 .ok) _ (c .before .sizes .ensures) in
-    (z .count, z .small)
+    (p .0, (z .count, z .small))
 
 cast-t14 : tie.Need-cast-t14
 cast-t14 c =
@@ -39,7 +39,7 @@ all-chains-requires : tie.Need-all-chains-requires
 all-chains-requires c κs =
     let p = c .before .before .before .before .before .before .before .before .before .before .pre in
     let z = counted _ (p .0 .ok) _ (c .before .before .before .before .before .sizes .ensures) in (
-      record { ready = p .0; first = c .before .before .before .first-flags .ensures; cores = z .cores; count = z .count; within = omega arith; small = z .small },
+      record { ready = p .0; first = c .before .before .before .classes-of .ensures; cores = z .cores; count = z .count; within = omega arith; small = z .small },
       record { room = omega arith; most = omega arith },
     )
 
@@ -58,7 +58,7 @@ search-spec =
     (λ c κs. search needs)
     add-count
     cast-count
-    first-flags-requires
+    classes-of-requires
     cast-t14
     all-chains-requires
     (λ c. search needs)
