@@ -11,18 +11,10 @@ ghost use lib.ListN.{length};
 ghost use Rattle.spec.specs.Limits.{pathSize};
 ghost use Rattle.spec.specs.Answers.{pathAnswer};
 ghost use Rattle.path.specs.Usable.{Ready};
-ghost use Rattle.path.specs.Parts.{chainEdges};
+ghost use Rattle.graph.specs.Recorded.{chainEdges};
 ghost use Rattle.path.specs.Whole.{UsableChain};
-use spec::Edge;
+use graph::Chain;
 use spec::PathAnswer;
-
-// The edges of a chain, in order; a record that is of no chain is a stranger's.
-pub enum Chain {
-    One(Edge),
-    Two(Edge, Edge),
-    Three(Edge, Edge, Edge),
-    Stranger,
-}
 
 // The parts of a path's record that go by entries.
 pub enum Part {
