@@ -15,15 +15,16 @@ use Rattle.spec.specs.declared.Verdict.{Verdict}
 use Rattle.spec.specs.declared.Verdict.the-variants.{Accepted, Refused as RefusedBook}
 use Rattle.spec.specs.declared.ListAnswer.{ListAnswer}
 use Rattle.spec.specs.declared.ListAnswer.the-variants.{Count, Refused as RefusedList}
+use Rattle.spec.specs.declared.PathAnswer.{PathAnswer}
 use Rattle.spec.specs.Limits.{maxSlots}
 use Rattle.spec.specs.Basics.{if_then_else_, padded}
 use Rattle.spec.specs.Book.{verdict}
 use Rattle.spec.specs.Order.{solutions}
 use Rattle.spec.specs.Records.{solutionOctets, slots}
-use Rattle.spec.specs.Answers.{Listed, refusals, refusalNumber, listNumber, refusedList, listingOf, listingOn, listing}
+use Rattle.spec.specs.Answers.{Listed, Assembled, refusals, refusalNumber, listNumber, pathNumber, refusedList, listingOf, listingOn, listing, assembly}
 use Rattle.sha256.specs.Message.{sha256}
 use Rattle.graph.proofs.ListLaws.{slots-most}
-use Rattle.combinator.specs.Exports.{isdAsn, Returned, numberedList, listReturned}
+use Rattle.combinator.specs.Exports.{isdAsn, Returned, numberedList, numberedPath, listReturned, pathReturned}
 
 -- ---- a count
 
@@ -55,3 +56,11 @@ module _ (b : List ℕ) (src dst bytes : ℕ) (a : ListAnswer) (out : List ℕ) 
   pub list-refusal : (r : Refusal) (n : ℕ) → a ≡ RefusedList r → n ≡ refusalNumber r → _≡_ {A = Returned} (refusals + n, out) (listReturned b src dst bytes)
   unfolding listReturned numberedList
   list-refusal r n q k = ap (λ m. (refusals + m, out)) k ∙ ap (λ x. (listNumber x, out)) (sym q) ∙ ap numberedList e
+
+-- ---- assembly's
+
+module _ (b : List ℕ) (src dst : ℕ) (given : List ℕ) (bytes : ℕ) (a : PathAnswer) (out : List ℕ)
+    (e : _≡_ {A = Assembled} (a, out) (assembly b (isdAsn src) (isdAsn dst) given bytes)) where
+  pub path-number : (x : PathAnswer) (n : ℕ) → a ≡ x → n ≡ pathNumber x → _≡_ {A = Returned} (n, out) (pathReturned b src dst given bytes)
+  unfolding pathReturned numberedPath
+  path-number x n q k = ap (λ m. (m, out)) k ∙ ap (λ y. (pathNumber y, out)) (sym q) ∙ ap numberedPath e

@@ -4,9 +4,10 @@ ghost use mathlib.Core.Path.{_≡_};
 ghost use Prim.Native.Nat.{_≤_};
 ghost use lib.ListN.{length};
 ghost use Rattle.spec.specs.Answers.{refusalNumber};
-ghost use Rattle.combinator.specs.Exports.{listReturned};
+ghost use Rattle.combinator.specs.Exports.{listReturned, pathReturned};
 use spec::IsdAsn;
 use spec::ListAnswer;
+use spec::PathAnswer;
 use spec::Refusal;
 
 const REFUSALS: u32 = 65536;
@@ -37,5 +38,25 @@ pub extern "C" fn combinator_list(src: u64, dst: u64, book: &[u8], out: &mut [u8
     match answer {
         ListAnswer::Count(n) => n as u32,
         ListAnswer::Refused(r) => REFUSALS + refusal_number(r),
+    }
+}
+
+// Assembles the path of the solution whose record is `given`, in `out`.
+#[no_mangle]
+pub extern "C" fn combinator_assemble(
+    src: u64,
+    dst: u64,
+    book: &[u8],
+    given: &[u8],
+    out: &mut [u8],
+) -> u32
+    ensures { λ r. ⌜ (r, now (out .exit)) ≡ pathReturned (now (book .entry)) src dst (now (given .entry)) (length (now (out .entry))) ⌝ }
+{
+    let answer = path::assemble(IsdAsn(src), IsdAsn(dst), book, given, out);
+    match answer {
+        PathAnswer::Path => 0,
+        PathAnswer::Loop => 1,
+        PathAnswer::Bare => 2,
+        PathAnswer::Refused(r) => REFUSALS + refusal_number(r),
     }
 }
