@@ -1,3 +1,85 @@
-.PHONY: test
+# make lib        proves crate combinator and writes build/libcombinator.a
+# make run        prints the list of the worked example
+# make test       the gate
+# make compare    the library against the Rust, on generated books (oracle/README.md)
+# make bench      times of the library and of the Rust, on the same books
+# make scale      time against the size of a book
+# make fuzz       damaged books, records and lengths: SECONDS=30 SEED=1
+# make install    PREFIX=/usr/local DESTDIR= PROGRAM_PREFIX=
+# make uninstall  with the same settings
+
+VERSION = 0.1.0
+
+PREFIX = /usr/local
+BINDIR = $(PREFIX)/bin
+LIBDIR = $(PREFIX)/lib
+INCLUDEDIR = $(PREFIX)/include
+MANDIR = $(PREFIX)/share/man
+# Programs stand beside each other here, with links in BINDIR: `book` looks for `list` beside it.
+PACKAGEDIR = $(LIBDIR)/combinator
+# Goes before the names of programs and of their manual pages, as in combinator-list.
+PROGRAM_PREFIX =
+
+SECONDS = 30
+SEED = 1
+
+PROGRAMS = target/bin/list $(wildcard tools/book)
+MODULES = $(wildcard tools/booktext/*.py)
+PAGES = $(wildcard man/*.[1-8])
+
+.PHONY: lib run test compare bench scale fuzz install uninstall clean
+
+lib:
+	rt staticlib combinator
+	mkdir -p build
+	cp target/staticlib/libcombinator.a build/libcombinator.a
+
+# Only where they are missing; `make lib` and `rt check list` build them anew.
+build/libcombinator.a:
+	$(MAKE) lib
+target/bin/list:
+	rt check list
+
+# Source 0001ff0000000111, destination 0001ff0000000110, book.
+run: target/bin/list
+	@{ printf '\000\001\377\000\000\000\001\021\000\001\377\000\000\000\001\020'; cat examples/worked.book; } | target/bin/list
+
 test:
 	bash .ci/run
+
+compare: build/libcombinator.a
+	tests/compare
+
+bench: build/libcombinator.a
+	tests/bench
+
+scale: build/libcombinator.a
+	tests/scale
+
+fuzz: build/libcombinator.a
+	tests/fuzz $(SEED) $(SECONDS)
+
+# A page's section is the last part of its name.
+page_to = $(DESTDIR)$(MANDIR)/man$(subst .,,$(suffix $(1)))/$(if $(filter .1,$(suffix $(1))),$(PROGRAM_PREFIX))$(notdir $(1))
+
+install: build/libcombinator.a target/bin/list
+	install -d $(DESTDIR)$(LIBDIR)/pkgconfig $(DESTDIR)$(INCLUDEDIR) $(DESTDIR)$(PACKAGEDIR) $(DESTDIR)$(BINDIR)
+	install -m 644 build/libcombinator.a $(DESTDIR)$(LIBDIR)/libcombinator.a
+	install -m 644 include/combinator.h $(DESTDIR)$(INCLUDEDIR)/combinator.h
+	sed -e 's|@PREFIX@|$(PREFIX)|' -e 's|@LIBDIR@|$(LIBDIR)|' -e 's|@INCLUDEDIR@|$(INCLUDEDIR)|' -e 's|@VERSION@|$(VERSION)|' \
+	    include/combinator.pc.in > $(DESTDIR)$(LIBDIR)/pkgconfig/combinator.pc
+	chmod 644 $(DESTDIR)$(LIBDIR)/pkgconfig/combinator.pc
+	$(foreach p,$(PROGRAMS),install -m 755 $(p) $(DESTDIR)$(PACKAGEDIR)/$(notdir $(p)) && \
+	    ln -sfr $(DESTDIR)$(PACKAGEDIR)/$(notdir $(p)) $(DESTDIR)$(BINDIR)/$(PROGRAM_PREFIX)$(notdir $(p)) &&) :
+	$(if $(MODULES),install -d $(DESTDIR)$(PACKAGEDIR)/booktext && install -m 644 $(MODULES) $(DESTDIR)$(PACKAGEDIR)/booktext)
+	$(foreach p,$(PAGES),install -D -m 644 $(p) $(call page_to,$(p)) &&) :
+
+uninstall:
+	rm -f $(DESTDIR)$(LIBDIR)/libcombinator.a $(DESTDIR)$(LIBDIR)/pkgconfig/combinator.pc $(DESTDIR)$(INCLUDEDIR)/combinator.h
+	rm -f $(foreach p,$(PROGRAMS),$(DESTDIR)$(BINDIR)/$(PROGRAM_PREFIX)$(notdir $(p))) $(foreach p,$(PAGES),$(call page_to,$(p)))
+	rm -f $(foreach p,$(PROGRAMS),$(DESTDIR)$(PACKAGEDIR)/$(notdir $(p)))
+	rm -rf $(DESTDIR)$(PACKAGEDIR)/booktext
+	rmdir $(DESTDIR)$(PACKAGEDIR)
+
+clean:
+	rm -rf build
