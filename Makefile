@@ -23,11 +23,21 @@ PROGRAM_PREFIX =
 SECONDS = 30
 SEED = 1
 
+# The archive that the tests link; build/libmodel.a, the model in its place, tries the tests themselves.
+LIB ?= build/libcombinator.a
+export LIB
+
+CFLAGS = -O2 -g
+STRICT = -std=c99 -D_GNU_SOURCE -Wall -Wextra -Wpedantic -Werror -Iinclude
+SANITIZE = -fsanitize=address,undefined -fno-sanitize-recover=all
+DRIVER = main batch replay fuzz bench scale stack build common model
+
 PROGRAMS = target/bin/list $(wildcard tools/book)
 MODULES = $(wildcard tools/booktext/*.py)
 PAGES = $(wildcard man/*.[1-8])
 
-.PHONY: lib run test compare bench scale fuzz install uninstall clean
+.PHONY: lib run test compare bench scale fuzz install uninstall clean FORCE
+.SECONDARY:
 
 lib:
 	rt staticlib combinator
@@ -47,17 +57,32 @@ run: target/bin/list
 test:
 	bash .ci/run
 
-compare: build/libcombinator.a
+compare:
 	tests/compare
 
-bench: build/libcombinator.a
+bench:
 	tests/bench
 
-scale: build/libcombinator.a
-	tests/scale
+scale: build/driver
+	build/driver scale
 
-fuzz: build/libcombinator.a
+fuzz:
 	tests/fuzz $(SEED) $(SECONDS)
+
+# The driver is linked anew each time, since LIB may name another archive.
+build/driver: $(DRIVER:%=build/plain/%.o) $(LIB) FORCE
+	$(CC) $(filter %.o,$^) $(LIB) -lpthread -o $@
+build/driver-sanitized: $(DRIVER:%=build/sanitized/%.o) $(LIB) FORCE
+	$(CC) $(SANITIZE) $(filter %.o,$^) $(LIB) -lpthread -o $@
+build/plain/%.o: tests/driver/%.c $(wildcard tests/driver/*.h) include/combinator.h
+	@mkdir -p $(@D)
+	$(CC) $(CFLAGS) $(STRICT) -c $< -o $@
+build/sanitized/%.o: tests/driver/%.c $(wildcard tests/driver/*.h) include/combinator.h
+	@mkdir -p $(@D)
+	$(CC) $(CFLAGS) $(STRICT) $(SANITIZE) -c $< -o $@
+build/libmodel.a: build/plain/model_list.o build/plain/model_assemble.o
+	ar rcs $@ $^
+FORCE:
 
 # A page's section is the last part of its name.
 page_to = $(DESTDIR)$(MANDIR)/man$(subst .,,$(suffix $(1)))/$(if $(filter .1,$(suffix $(1))),$(PROGRAM_PREFIX))$(notdir $(1))
