@@ -25,7 +25,9 @@ struct input {
 /* The next case of a batch at *at: 1, or 0 at the end. A case under 16 bytes has no book (NULL). */
 int next_case(const uint8_t *batch, size_t len, size_t *at, struct input *c);
 
+/* Time of the clock, and of this thread's own work. */
 uint64_t now_ns(void);
+uint64_t work_ns(void);
 
 /* The length of a path's record by its counts. */
 size_t path_length(const uint8_t *path);

@@ -9,6 +9,7 @@
  * size, for AddressSanitizer and valgrind; the book and the record must be left as they were. --undefined leaves the
  * outputs in the heap unset, so that valgrind sees a use of what they held. */
 #include <inttypes.h>
+#include <signal.h>
 #include <stdio.h>
 #include <stdlib.h>
 #include <string.h>
@@ -146,6 +147,15 @@ static void wrong(const char *call, const char *what, size_t out_len, uint32_t a
     exit(1);
 }
 
+/* A page beside a buffer was touched, as a rule. */
+static void fault(int signal_number)
+{
+    signal(signal_number, SIG_DFL);
+    fprintf(stderr, "turn %" PRIu64 " (%s): signal %d, book of %zu bytes, record of %zu\n", now.turn, now.kind, signal_number, now.book_len,
+            now.record_len);
+    raise(signal_number);
+}
+
 static uint8_t expected[MAX_OUT];
 
 /* Listing, or assembly of now.record. The output that came is at the returned place until the next call. */
@@ -168,10 +178,10 @@ static const uint8_t *check(int assemble, size_t out_len, uint32_t *answered)
         memset(out, (int)pick(256), out_len);
     want = assemble ? model_assemble(now.src, now.dst, now.book, now.book_len, now.record, now.record_len, expected, out_len)
                     : model_list(now.src, now.dst, now.book, now.book_len, expected, out_len);
-    start = now_ns();
+    start = work_ns();
     answer = assemble ? combinator_assemble(now.src, now.dst, book, now.book_len, record, now.record_len, out, out_len)
                       : combinator_list(now.src, now.dst, book, now.book_len, out, out_len);
-    ns = now_ns() - start;
+    ns = work_ns() - start;
 
     if (!guards_hold(out, out_at, out_len))
         wrong(call, "bytes beside the output were written", out_len, answer, want);
@@ -204,14 +214,14 @@ static const uint8_t *check(int assemble, size_t out_len, uint32_t *answered)
     }
     if (assemble && answer == COMBINATOR_PATH) {
         struct input c;
-        const char *fault;
+        const char *disagrees;
         c.src = now.src;
         c.dst = now.dst;
         c.book = now.book;
         c.book_len = now.book_len;
-        fault = router_fault(&c, now.record, out);
-        if (fault)
-            wrong(call, fault, out_len, answer, want);
+        disagrees = router_fault(&c, now.record, out);
+        if (disagrees)
+            wrong(call, disagrees, out_len, answer, want);
     }
     if (answered)
         *answered = answer;
@@ -754,6 +764,8 @@ int fuzz_mode(int args, char **arg)
     seed = strtoull(arg[0], NULL, 10);
     limit = strtoull(arg[1], NULL, 10);
     seconds = strchr(arg[1], 's') != NULL;
+    signal(SIGSEGV, fault);
+    signal(SIGBUS, fault);
     make_area(&book_area, MAX_BOOK);
     make_area(&record_area, 64);
     make_area(&out_area, MAX_OUT);

@@ -10,7 +10,7 @@
 #include "combinator.h"
 #include "common.h"
 
-#define STACK ((size_t)1 << 20)
+#define STACK ((size_t)512 << 10)
 #define PAINT 0x5a
 /* Left unpainted below the calling frame: less than this is not told apart. */
 #define MARGIN 1024
