@@ -674,6 +674,12 @@ static void sweep_outputs(void)
         check_list(65536 + 4096 + 16);
         check_list(MAX_OUT);
     }
+    /* Every AS and every link shared: the most work known of a book. */
+    for (i = 1; i <= 16; i++) {
+        now.book_len = build_worst(now.book, i, 16, 4);
+        check_list(65536);
+    }
+    now.book_len = build_chains(now.book, 17, 16, 16, 1);
     /* Assembly is not Full, and a record is found among 4,352. */
     {
         size_t count;
