@@ -1,0 +1,626 @@
+#!/usr/bin/env python3
+"""Generates books, with source and destination, as a batch for the oracle and the driver:
+repeated [length of the rest, 4 bytes big-endian][source 8][destination 8][book].
+
+    gen.py --seed 1 --count 20000 --out cases.batch [--profile NAME] [--list-profiles]
+
+Without --profile each case draws its profile by the weights below. With --index FILE the profile
+of each case is written, one line a case.
+"""
+import argparse
+import random
+import struct
+import sys
+
+MAX_BOOK = 61440
+
+
+class Seg:
+    def __init__(self, ts, sid, entries):
+        self.ts, self.sid, self.entries = ts, sid, entries
+
+    def copy(self):
+        return Seg(self.ts, self.sid, [e.copy() for e in self.entries])
+
+    def body(self):
+        return b"".join(e.bytes() for e in self.entries)
+
+
+class Entry:
+    def __init__(self, as_, mtu, imtu, ing, egr, units, mac, peers):
+        self.as_, self.mtu, self.imtu, self.ing, self.egr = as_, mtu, imtu, ing, egr
+        self.units, self.mac, self.peers = units, mac, peers
+
+    def copy(self):
+        return Entry(self.as_, self.mtu, self.imtu, self.ing, self.egr, self.units, self.mac,
+                     [list(p) for p in self.peers])
+
+    def bytes(self):
+        out = struct.pack(">QIHHHB", self.as_, self.mtu, self.imtu, self.ing, self.egr, self.units)
+        out += self.mac + bytes([len(self.peers)])
+        for (pas, pif, pmtu, units, ing, egr, mac) in self.peers:
+            out += struct.pack(">QHHBHH", pas, pif, pmtu, units, ing, egr) + mac
+        return out
+
+
+def pack_book(cores, noncores):
+    segs = cores + noncores
+    bodies = [s.body() for s in segs]
+    out = struct.pack(">HHI", len(cores), len(noncores), sum(map(len, bodies)))
+    for s, b in zip(segs, bodies):
+        out += struct.pack(">IHHH", s.ts, s.sid, len(s.entries), len(b))
+    return out + b"".join(bodies)
+
+
+class Gen:
+    """One case's random choices."""
+
+    def __init__(self, rng):
+        self.r = rng
+        # How wild the fields are, how often interfaces are zero, how many interface ids there are.
+        self.wild = rng.choice([0.0, 0.0, 0.15, 0.6])
+        self.zero = rng.choice([0.0, 0.0, 0.05, 0.1, 0.1, 0.5, 0.5, 1.0])
+        self.ifs = rng.choice([1, 2, 4, 30, 65535])
+        self.macs = [rng.randbytes(6) for _ in range(rng.choice([1, 2, 40]))]
+        self.macs += [bytes(6)] if rng.random() < 0.1 else []
+
+    def p(self, x):
+        return self.r.random() < x
+
+    def ts(self):
+        if self.p(self.wild):
+            return self.r.choice([0, 1, 2**32 - 1, 2**32 - 2, 2**32 - 338, 2**32 - 337, 2**32 - 86400,
+                                  2**32 - 86401, self.r.randrange(2**32)])
+        return self.r.choice([1000000, 1700000000 + self.r.randrange(4) * 300])
+
+    def sid(self):
+        return self.r.choice([0, 0xFFFF, 0x1234, self.r.randrange(65536), self.r.randrange(65536)])
+
+    def units(self):
+        return self.r.choice([0, 1, 63, 63, 254, 255, self.r.randrange(256)])
+
+    def mtu(self):
+        if self.p(self.wild):
+            return self.r.choice([0, 1, 65535, 65536, 65537, 70000, 131071, 2**32 - 1, 2**31,
+                                  self.r.randrange(2**32)])
+        return self.r.choice([1280, 1400, 1472, 1500, 9000])
+
+    def imtu(self):
+        if self.p(self.wild):
+            return self.r.choice([0, 0, 1, 65535, self.r.randrange(65536)])
+        return self.r.choice([0, 1200, 1280, 1300, 1350, 1400, 1472])
+
+    def ifid(self):
+        return 0 if self.p(self.zero) else self.r.randint(1, self.ifs)
+
+    def mac(self):
+        return self.r.choice(self.macs) if self.p(0.7) else self.r.randbytes(6)
+
+    def peer(self, pas, pif, ing):
+        return [pas, pif, self.imtu(), self.units(), ing, self.ifid(), self.mac()]
+
+    def entry(self, as_, ing, egr, peers=()):
+        return Entry(as_, self.mtu(), self.imtu(), ing, egr, self.units(), self.mac(), list(peers))
+
+    def asn(self, k):
+        """k ASes, of one ISD mostly, now and then at the ends of the range."""
+        base = 0x0001FF0000000110
+        out = [base + i for i in range(k)]
+        if self.p(0.3):
+            out = [((1 + i % 3) << 48) | 0xFF0000000110 + i for i in range(k)]
+        if self.p(0.1):
+            out[0] = 0
+            out[-1] = 2**64 - 1
+        self.r.shuffle(out)
+        return out
+
+
+def link_if(g):
+    """An interface id of a peering link's side, 0 now and then."""
+    return 0 if g.p(0.6 if g.zero == 1.0 else 0.05) else g.r.randint(1, 3)
+
+
+def links_between(g, universe, n):
+    """Peering links (as, if, as, if); a few are self-links or have interface 0."""
+    out = []
+    for _ in range(n):
+        a, b = g.r.choice(universe), g.r.choice(universe)
+        if a == b and not g.p(0.3):
+            continue
+        fa, fb = link_if(g), link_if(g)
+        if a == b and g.p(0.5):
+            fb = fa
+        out.append((a, fa, b, fb))
+    return out
+
+
+def peers_for(g, as_, links, most=4, often=0.5, foreign=0.05):
+    """Peer entries of an AS: sides of the links at that AS, or (foreign) anything."""
+    out = []
+    ends = [(b, fb, fa) for (a, fa, b, fb) in links if a == as_]
+    ends += [(a, fa, fb) for (a, fa, b, fb) in links if b == as_]
+    g.r.shuffle(ends)
+    for (pas, pif, ing) in ends:
+        if len(out) < most and g.p(often):
+            out.append(g.peer(pas, pif, ing))
+            # Once more, so that edges with equal ends overwrite.
+            while len(out) < most and g.p(0.15):
+                out.append(g.peer(pas, pif, ing))
+    while len(out) < most and g.p(foreign):
+        l = g.r.choice(links) if links else (as_, 1, as_, 2)
+        out.append(g.peer(l[2], l[3], l[1]))
+    return out
+
+
+def soup_seg(g, universe, links, n, repeat=0.15, peer=0.5, tidy=0.7):
+    path, entries = [], []
+    for i in range(n):
+        free = [a for a in universe if a not in path]
+        a = g.r.choice(free) if free and not g.p(repeat) else g.r.choice(universe)
+        path.append(a)
+        ing = 0 if i == 0 and g.p(tidy) else g.ifid()
+        egr = 0 if i == n - 1 and g.p(tidy) else g.ifid()
+        entries.append(g.entry(a, ing, egr, peers_for(g, a, links, often=peer)))
+    return Seg(g.ts(), g.sid(), entries)
+
+
+def pick_ends(g, cores, noncores, universe):
+    leaves = [s.entries[-1].as_ for s in noncores + cores if s.entries]
+    tops = [s.entries[0].as_ for s in cores + noncores if s.entries]
+    def one():
+        x = g.r.random()
+        if x < 0.6 and leaves:
+            return g.r.choice(leaves)
+        if x < 0.8 and tops:
+            return g.r.choice(tops)
+        return g.r.choice(universe)
+    s, d = one(), one()
+    for _ in range(4):
+        if s != d:
+            break
+        d = one()
+    return s, d
+
+
+def soup(g, sizes, entries, uni, nlinks, repeat=None):
+    universe = g.asn(g.r.randint(*uni))
+    links = links_between(g, universe, g.r.randint(*nlinks))
+    total = g.r.randint(*sizes)
+    ncore = g.r.randint(0, total) if g.p(0.3) else total // g.r.choice([3, 4, 5])
+    rep = g.r.choice([0.0, 0.05, 0.3]) if repeat is None else repeat
+    cores, noncores = [], []
+    for i in range(total):
+        n = g.r.randint(*entries) if not g.p(0.05) else g.r.choice([0, 1])
+        s = soup_seg(g, universe, links if i >= ncore or g.p(0.1) else [], n, rep)
+        (cores if i < ncore else noncores).append(s)
+    s, d = pick_ends(g, cores, noncores, universe)
+    return s, d, cores, noncores
+
+
+def vary(g, s):
+    """A copy of a segment, equal or with an equal fingerprint, or almost."""
+    s = s.copy()
+    if not s.entries:
+        return s
+    e = g.r.choice(s.entries)
+    k = g.r.randrange(11)
+    if k == 0:
+        s.ts = g.ts()
+    elif k == 1:
+        s.sid = g.sid()
+    elif k == 2:
+        e.mac = g.r.randbytes(6)
+    elif k == 3:
+        e.mtu = g.mtu()
+    elif k == 4:
+        e.imtu = g.imtu()
+    elif k == 5:
+        e.units = g.units()
+    elif k == 6 and e.peers:
+        e.peers.pop()
+    elif k == 7 and len(e.peers) < 4 and e.peers:
+        e.peers.append(list(g.r.choice(e.peers)))
+    elif k == 8 and e.peers:
+        g.r.choice(e.peers)[2] = g.imtu()
+    elif k == 9 and e.peers:
+        g.r.shuffle(e.peers)
+    return s  # k == 10: an equal segment
+
+
+def prof_tiny(g):
+    return soup(g, (0, 3), (1, 3), (2, 4), (0, 3))
+
+
+def prof_small(g):
+    return soup(g, (2, 8), (1, 4), (2, 6), (0, 4))
+
+
+def prof_medium(g):
+    return soup(g, (6, 20), (2, 6), (6, 16), (0, 6))
+
+
+def prof_copies(g):
+    s, d, cores, noncores = soup(g, (2, 5), (1, 4), (3, 6), (0, 3))
+    for l in (cores, noncores):
+        for _ in range(g.r.randint(0, 6)):
+            if l:
+                l.insert(g.r.randint(0, len(l)), vary(g, g.r.choice(l)))
+    # The same bytes under the other kind.
+    if noncores and g.p(0.3):
+        cores.append(g.r.choice(noncores).copy())
+    if cores and g.p(0.3):
+        noncores.append(g.r.choice(cores).copy())
+    return s, d, cores, noncores
+
+
+def prof_peering(g):
+    """Two or more non-core segments joined by peering links listed on both sides."""
+    universe = g.asn(g.r.randint(3, 9))
+    r = g.r
+    noncores, links = [], []
+    def seg(leaf):
+        n = r.randint(1, 5)
+        path = [r.choice(universe) for _ in range(n - 1)] + [leaf]
+        return Seg(g.ts(), g.sid(), [
+            g.entry(a, 0 if i == 0 else g.ifid(), 0 if i == n - 1 else g.ifid())
+            for i, a in enumerate(path)])
+    leaves = r.sample(universe, 2)
+    for i in range(r.randint(2, 5)):
+        noncores.append(seg(leaves[i % 2] if g.p(0.8) else r.choice(universe)))
+    for _ in range(r.randint(1, 6)):
+        s, t = r.sample(noncores, 2)
+        x, y = r.choice(s.entries), r.choice(t.entries)
+        fx, fy = link_if(g), link_if(g)
+        for _ in range(r.choice([1, 1, 1, 2])):
+            if len(x.peers) < 4:
+                x.peers.insert(r.randint(0, len(x.peers)), g.peer(y.as_, fy, fx))
+        if g.p(0.9):
+            for _ in range(r.choice([1, 1, 1, 2])):
+                if len(y.peers) < 4:
+                    y.peers.insert(r.randint(0, len(y.peers)), g.peer(x.as_, fx, fy))
+    cores = []
+    for _ in range(r.randint(0, 2)):
+        cores.append(soup_seg(g, universe, [], r.randint(1, 3)))
+    if g.p(0.2):
+        noncores.append(vary(g, r.choice(noncores)))
+    s, d = leaves if g.p(0.8) else pick_ends(g, cores, noncores, universe)
+    return s, d, cores, noncores
+
+
+def prof_three(g):
+    """Up, core, down, over a small core, with shortcuts and peers at hand."""
+    universe = g.asn(g.r.randint(6, 14))
+    r = g.r
+    k = r.randint(2, 4)
+    core, low = universe[:k], universe[k:]
+    links = links_between(g, low, r.randint(0, 3))
+    cores, noncores = [], []
+    for _ in range(r.randint(1, 6)):
+        a, b = r.choice(core), r.choice(core)
+        mid = [x for x in r.sample(core, r.randint(0, k)) if x not in (a, b)]
+        path = [a] + mid + ([b] if a != b or g.p(0.5) else [])
+        n = len(path)
+        cores.append(Seg(g.ts(), g.sid(), [
+            g.entry(x, 0 if i == 0 else g.ifid(), 0 if i == n - 1 else g.ifid())
+            for i, x in enumerate(path)]))
+    leaves = r.sample(low, 2)
+    for i in range(r.randint(2, 8)):
+        leaf = leaves[i % 2] if g.p(0.8) else r.choice(low)
+        mid = r.sample(low, r.randint(0, min(3, len(low))))
+        path = [r.choice(core)] + [x for x in mid if x != leaf or g.p(0.1)] + [leaf]
+        n = len(path)
+        noncores.append(Seg(g.ts(), g.sid(), [
+            g.entry(x, 0 if i == 0 else g.ifid(), 0 if i == n - 1 else g.ifid(),
+                    peers_for(g, x, links, often=0.6))
+            for i, x in enumerate(path)]))
+    return leaves[0], leaves[1], cores, noncores
+
+
+def prof_network(g):
+    """A consistent network: links with interface ids on both sides, beacons walking over them."""
+    r = g.r
+    g.zero = 0.0
+    universe = g.asn(r.randint(5, 24))
+    k = r.randint(1, min(5, len(universe) - 2))
+    core, low = universe[:k], universe[k:]
+    nextif = {a: 1 for a in universe}
+    def iface(a):
+        nextif[a] += 1
+        return nextif[a] - 1
+    down = {a: [] for a in universe}
+    cl = {a: [] for a in core}
+    for i, a in enumerate(core):
+        for b in core[:i]:
+            if g.p(0.7):
+                fa, fb = iface(a), iface(b)
+                cl[a].append((b, fa, fb))
+                cl[b].append((a, fb, fa))
+    for i, a in enumerate(low):
+        for _ in range(r.choice([1, 1, 2, 3])):
+            p = r.choice(core + low[:i])
+            down[p].append((a, iface(p), iface(a)))
+    peers = {a: [] for a in universe}
+    for _ in range(r.randint(0, 6)):
+        a, b = r.sample(low, 2)
+        fa, fb = iface(a), iface(b)
+        peers[a].append((b, fb, fa))
+        peers[b].append((a, fa, fb))
+    def walk(start, nexts, depth):
+        path, at, ing = [], start, 0
+        seen = {start}
+        while True:
+            nx = [(b, fa, fb) for (b, fa, fb) in nexts[at] if b not in seen]
+            if not nx or len(path) + 1 >= depth or (path and g.p(0.25)):
+                path.append((at, ing, 0))
+                return path
+            b, fa, fb = r.choice(nx)
+            path.append((at, ing, fa))
+            seen.add(b)
+            at, ing = b, fb
+    def seg(path, with_peers):
+        es = []
+        for (a, ing, egr) in path:
+            ps = []
+            if with_peers:
+                for (b, fb, fa) in peers[a][:4]:
+                    # The peer hop's egress is that of the regular hop.
+                    ps.append([b, fb, g.imtu(), g.units(), fa, egr, g.mac()])
+            es.append(g.entry(a, ing, egr, ps))
+        return Seg(g.ts(), g.sid(), es)
+    cores = [seg(walk(r.choice(core), cl, 16), False) for _ in range(r.randint(0, 10))]
+    noncores = [seg(walk(r.choice(core), down, 16), True) for _ in range(r.randint(1, 24))]
+    cores = [s for s in cores if len(s.entries) > 1 or g.p(0.05)]
+    noncores = [s for s in noncores if len(s.entries) > 1 or g.p(0.05)]
+    if g.p(0.2) and noncores:
+        noncores.append(vary(g, r.choice(noncores)))
+    s, d = pick_ends(g, cores, noncores, universe)
+    return s, d, cores, noncores
+
+
+def prof_loops(g):
+    """Self-edges: one-entry segments, first AS = last AS, the leaf's AS again above."""
+    r = g.r
+    universe = g.asn(r.randint(2, 4))
+    links = links_between(g, universe, r.randint(0, 3))
+    cores, noncores = [], []
+    for _ in range(r.randint(1, 6)):
+        n = r.choice([0, 1, 1, 2, 3, 4])
+        s = soup_seg(g, universe, links if g.p(0.5) else [], n, repeat=0.6)
+        if n > 1 and g.p(0.5):
+            s.entries[0].as_ = s.entries[-1].as_
+        (cores if g.p(0.4) else noncores).append(s)
+    s, d = pick_ends(g, cores, noncores, universe)
+    return s, d, cores, noncores
+
+
+def prof_same_ends(g):
+    s, d, cores, noncores = soup(g, (1, 6), (1, 4), (2, 5), (0, 3))
+    return s, s, cores, noncores
+
+
+def prof_bare(g):
+    g.zero = 1.0
+    r = g.r.randrange(3)
+    return (prof_tiny, prof_loops, prof_peering)[r](g)
+
+
+def prof_many(g):
+    """Up to 64 segments of few entries over few ASes: many solutions."""
+    return soup(g, (20, 64), (1, 3), (6, 24), (0, 8))
+
+
+def prof_crowd(g):
+    """Many solutions: parallel segments over a handful of ASes, equal fingerprints among them."""
+    r = g.r
+    universe = g.asn(4)
+    a, b, x, y = universe
+    def seg(path):
+        n = len(path)
+        return Seg(g.ts(), g.sid(), [
+            g.entry(p, 0 if i == 0 else g.ifid(), 0 if i == n - 1 else g.ifid())
+            for i, p in enumerate(path)])
+    cores = [seg(r.choice([[x, y], [y, x], [x, a, y]])) for _ in range(r.randint(1, 12))]
+    noncores = [seg(r.choice([[x, a], [y, a]])) for _ in range(r.randint(1, 16))]
+    noncores += [seg(r.choice([[x, b], [y, b]])) for _ in range(r.randint(1, 16))]
+    r.shuffle(noncores)
+    return a, b, cores, noncores
+
+
+def prof_flood(g):
+    """Around 4,096 solutions and above, up to 9,261: three kinds of parallel segments."""
+    r = g.r
+    a, b, x, y = g.asn(4)
+    n = r.choice([16, 16, 16, 17, 20, 21])
+    same = r.choice([0, 1, 1])
+    def seg(path):
+        k = len(path)
+        return Seg(g.ts(), g.sid(), [
+            g.entry(p, 0 if i == 0 else r.randint(1, 9), 0 if i == k - 1 else r.randint(1, 9))
+            for i, p in enumerate(path)])
+    def many(path):
+        if same and g.p(0.5):
+            s = seg(path)
+            out = []
+            for i in range(n):
+                s = s.copy()
+                s.entries[0].mac = struct.pack(">HI", r.randrange(65536), i)
+                out.append(s)
+            return out
+        return [seg(path) for _ in range(n)]
+    return a, b, many([x, y]), many([x, a]) + many([y, b])
+
+
+def prof_limits(g):
+    """To the limits: 64 segments, 16 entries, 4 peers, as far as 61,440 bytes go."""
+    r = g.r
+    universe = g.asn(r.choice([20, 60, 200]))
+    links = links_between(g, universe, r.choice([5, 40, 200]))
+    cores, noncores = [], []
+    size = 8
+    total = r.choice([64, 64, r.randint(20, 64)])
+    ncore = r.randint(0, total // 2)
+    full = r.choice([16, 16, 10])
+    for i in range(total):
+        n = full if g.p(0.7) else r.randint(0, 16)
+        s = soup_seg(g, universe, links if i >= ncore else [], n, repeat=0.02, peer=0.9)
+        room = MAX_BOOK - size - 10 * (total - i)
+        while len(s.body()) > room:
+            s.entries.pop()
+        size += 10 + len(s.body())
+        (cores if i < ncore else noncores).append(s)
+    s, d = pick_ends(g, cores, noncores, universe)
+    return s, d, cores, noncores
+
+
+def prof_full(g):
+    """A book of just 61,440 bytes or a little less, of 16-entry segments with 4 peers each."""
+    r = g.r
+    universe = g.asn(r.choice([24, 60]))
+    links = links_between(g, universe, 400)
+    cores, noncores = [], []
+    size = 8
+    nc = r.randint(2, 8)
+    while True:
+        s = soup_seg(g, universe, [], 16, repeat=0.0)
+        core = len(cores) < nc
+        if not core:
+            for e in s.entries:
+                e.peers = [g.peer(*x) for x in
+                           [(l[2], l[3], l[1]) for l in links if l[0] == e.as_][:4]]
+        if size + 10 + len(s.body()) > MAX_BOOK or len(cores) + len(noncores) == 64:
+            break
+        size += 10 + len(s.body())
+        (cores if core else noncores).append(s)
+    s, d = pick_ends(g, cores, noncores, universe)
+    return s, d, cores, noncores
+
+
+def prof_worst(g):
+    """Only by --profile: the most solutions known of a book of 61,440 bytes (20,224)."""
+    r = g.r
+    a, b, *up = g.asn(17)
+    g.zero = r.choice([0.0, 0.1])
+    def seg(leaf):
+        path = up[:15] + [leaf]
+        es = []
+        for i, x in enumerate(path):
+            # Links from x to itself, the leaves' to each other: each side's entry matches.
+            far = {a: b, b: a}.get(x, x)
+            es.append(g.entry(x, 0 if i == 0 else g.ifid(), 0 if i == 15 else g.ifid(),
+                              [g.peer(far, j + 1, j + 1) for j in range(4)]))
+        return Seg(g.ts(), g.sid(), es)
+    return a, b, [], [seg(a) for _ in range(16)] + [seg(b) for _ in range(16)]
+
+
+def prof_longest(g):
+    """Three edges of 16 entries each."""
+    r = g.r
+    ases = [0x0001FF0000000000 + i for i in range(48)]
+    g.zero = r.choice([0.0, 0.0, 0.1])
+    def seg(path):
+        n = len(path)
+        tidy = g.p(0.8)
+        return Seg(g.ts(), g.sid(), [
+            g.entry(p, 0 if i == 0 and tidy else g.ifid(), 0 if i == n - 1 and tidy else g.ifid())
+            for i, p in enumerate(path)])
+    up, core, down = ases[:16], ases[16:32], ases[32:]
+    core[0], core[-1] = (up[0], down[0]) if g.p(0.5) else (down[0], up[0])
+    return up[-1], down[-1], [seg(core)], [seg(up), seg(down)]
+
+
+def prof_bad(g):
+    """Mostly books that are refused: damaged, cut, over the limits."""
+    r = g.r
+    s, d, cores, noncores = prof_small(g)
+    b = bytearray(pack_book(cores, noncores))
+    k = r.randrange(9)
+    if k == 0:
+        b = b[:r.randrange(len(b) + 1)]
+    elif k == 1:
+        b += bytes(r.randint(1, 30))
+    elif k == 2:
+        b += bytes(MAX_BOOK + r.choice([0, 1]) - len(b))
+    elif k == 3:
+        noncores += [Seg(0, 0, []) for _ in range(65 - len(cores) - len(noncores) - r.randint(0, 1))]
+        b = bytearray(pack_book(cores, noncores))
+    elif k == 4:
+        noncores.append(soup_seg(g, g.asn(4), [], r.choice([16, 17, 18])))
+        b = bytearray(pack_book(cores, noncores))
+    elif k == 5:
+        n = soup_seg(g, g.asn(4), [], 3)
+        e = r.choice(n.entries)
+        e.peers = [g.peer(1, 2, 3) for _ in range(r.choice([4, 5, 5, 9]))]
+        noncores.append(n)
+        b = bytearray(pack_book(cores, noncores))
+    elif k == 6:
+        for _ in range(r.randint(1, 3)):
+            if b:
+                b[r.randrange(min(len(b), 60))] = r.randrange(256)
+    elif k == 7:
+        for _ in range(r.randint(1, 3)):
+            if b:
+                b[r.randrange(len(b))] = r.randrange(256)
+    else:
+        # Body lengths moved between two heads.
+        n = len(cores) + len(noncores)
+        if n > 1:
+            i, j = r.sample(range(n), 2)
+            at = lambda q: 8 + 10 * q + 8
+            li, lj = (struct.unpack_from(">H", b, at(q))[0] for q in (i, j))
+            m = r.randint(0, lj)
+            struct.pack_into(">H", b, at(i), min(65535, li + m))
+            struct.pack_into(">H", b, at(j), lj - m)
+    return s, d, bytes(b)
+
+
+PROFILES = {
+    "tiny": (prof_tiny, 14), "small": (prof_small, 16), "medium": (prof_medium, 10),
+    "copies": (prof_copies, 12), "peering": (prof_peering, 14), "three": (prof_three, 10),
+    "network": (prof_network, 10), "loops": (prof_loops, 8), "same_ends": (prof_same_ends, 1),
+    "bare": (prof_bare, 3), "many": (prof_many, 1.5), "crowd": (prof_crowd, 0.5),
+    "flood": (prof_flood, 0.08),
+    "limits": (prof_limits, 0.7), "full": (prof_full, 0.3), "longest": (prof_longest, 1),
+    "bad": (prof_bad, 2), "worst": (prof_worst, 0),
+}
+
+
+def make(seed, index, profile=None):
+    rng = random.Random(f"{seed}/{index}")
+    if profile is None:
+        names = list(PROFILES)
+        profile = rng.choices(names, [PROFILES[n][1] for n in names])[0]
+    case = PROFILES[profile][0](Gen(rng))
+    if len(case) == 3:
+        s, d, b = case
+    else:
+        s, d, cores, noncores = case
+        b = pack_book(cores, noncores)
+        # Now and then an end that no segment knows.
+        if profile != "same_ends" and rng.random() < 0.01:
+            d = 0x0002000000000001
+    return profile, struct.pack(">QQ", s, d) + b
+
+
+def main():
+    a = argparse.ArgumentParser()
+    a.add_argument("--seed", default="1")
+    a.add_argument("--count", type=int, default=20000)
+    a.add_argument("--profile")
+    a.add_argument("--out", default="-")
+    a.add_argument("--index")
+    a.add_argument("--list-profiles", action="store_true")
+    o = a.parse_args()
+    if o.list_profiles:
+        print("\n".join(f"{n} {w}: {f.__doc__ or ''}" for n, (f, w) in PROFILES.items()))
+        return
+    out = sys.stdout.buffer if o.out == "-" else open(o.out, "wb")
+    idx = open(o.index, "w") if o.index else None
+    for i in range(o.count):
+        name, case = make(o.seed, i, o.profile)
+        out.write(struct.pack(">I", len(case)) + case)
+        if idx:
+            idx.write(name + "\n")
+
+
+if __name__ == "__main__":
+    main()

@@ -1,0 +1,348 @@
+//! The program's modes.
+
+use std::{
+    cell::RefCell,
+    fmt::Write as _,
+    io::{Read, Write},
+    panic::{AssertUnwindSafe, catch_unwind},
+    time::Instant,
+};
+
+use crate::{
+    book::{self, Book},
+    dataplane_path::view::ScionDpPathView,
+    identifier::isd_asn::IsdAsn,
+    path::{
+        ScionPath,
+        combinator::graph::{InputSegment, MultiGraph, PathSolution, Vertex, number_of_hops},
+        fingerprint::{control_plane::PathFingerprint, data_plane::DpPathFingerprint},
+    },
+    reveal::reveal,
+    segment::{Entry, rpc::Own},
+};
+
+thread_local! {
+    static PANIC: RefCell<String> = const { RefCell::new(String::new()) };
+}
+
+/// What `PathSolution::path` came to.
+enum Came {
+    Path(ScionPath),
+    Loop,
+    Refused,
+    Panic(String),
+}
+
+fn path_of<E: Entry>(s: &PathSolution<'_, E>) -> Came {
+    match catch_unwind(AssertUnwindSafe(|| s.path())) {
+        Ok(Ok(Some((p, _)))) => Came::Path(p),
+        Ok(Ok(None)) => Came::Loop,
+        Ok(Err(_)) => Came::Refused,
+        Err(_) => Came::Panic(PANIC.with(|m| m.borrow().clone())),
+    }
+}
+
+fn inputs<const T: bool>(book: &Book<T>) -> Vec<InputSegment<'_, Own<T>>> {
+    book.segments
+        .iter()
+        .enumerate()
+        .map(|(p, s)| {
+            if p < book.cores {
+                InputSegment::new_core(s)
+            } else {
+                InputSegment::new_non_core(s)
+            }
+        })
+        .collect()
+}
+
+fn print_path(out: &mut String, path: &ScionPath) -> Vec<u8> {
+    let meta = path.metadata().expect("path() gives metadata");
+    let ScionDpPathView::Standard(view) = path.dp_path() else {
+        panic!("path() gives a standard path")
+    };
+    assert!(path.expiration() == Some(meta.expiration as u32));
+    writeln!(out, "path mtu {} expiry {}", meta.mtu, meta.expiration).unwrap();
+    let mut flags = Vec::new();
+    let mut hops = 0;
+    for (info, h) in view.segments() {
+        flags.push(info.flags().bits());
+        hops += h.len();
+        writeln!(
+            out,
+            "info {} {:04x} {} {}",
+            info.flags().bits(),
+            info.segment_id(),
+            info.timestamp(),
+            h.len()
+        )
+        .unwrap();
+    }
+    assert!(hops == view.hop_fields().len() && flags.len() == view.info_fields().len());
+    for h in view.hop_fields() {
+        write!(out, "hop {} {} {} ", h.exp_time(), h.cons_ingress(), h.cons_egress()).unwrap();
+        for b in h.mac().0 {
+            write!(out, "{b:02x}").unwrap();
+        }
+        out.push('\n');
+        assert!(h.flags().bits() == 0);
+    }
+    let interfaces = meta.interfaces.as_ref().expect("path() gives interfaces");
+    for i in interfaces {
+        writeln!(out, "if {:016x} {}", i.interface.isd_asn.0, i.interface.id).unwrap();
+    }
+    assert!(path.src_ia() == interfaces[0].interface.isd_asn);
+    assert!(path.dst_ia() == interfaces[interfaces.len() - 1].interface.isd_asn);
+    flags
+}
+
+#[derive(Clone, Copy)]
+struct Flags {
+    /// Without `combine`'s rule for equal ends.
+    no_wrapper: bool,
+    /// Print a refusal's number (of document 01's table; the Rust has none).
+    numbers: bool,
+}
+
+/// The canonical text of one case: source, destination, book.
+fn block(out: &mut String, case: &[u8], flags: Flags) {
+    let decoded = match split(case) {
+        None => Err(1),
+        Some((source, destination, bytes)) => {
+            book::decode::<true>(bytes, true).map(|book| (source, destination, book))
+        }
+    };
+    let (source, destination, book) = match decoded {
+        Ok(d) => d,
+        Err(number) => {
+            out.push_str("undecodable");
+            if flags.numbers {
+                write!(out, " {number}").unwrap();
+            }
+            out.push('\n');
+            return;
+        }
+    };
+    if source == destination && !flags.no_wrapper {
+        // As in `combine`.
+        out.push_str("solutions 0\n");
+        return;
+    }
+    let inputs = inputs(&book);
+    let mut graph = MultiGraph::new(number_of_hops);
+    graph.add_segments(inputs.iter().cloned());
+    let solutions = graph.get_paths(source, destination);
+    writeln!(out, "solutions {}", solutions.len()).unwrap();
+    for (i, s) in solutions.iter().enumerate() {
+        let (cost, edges) = reveal(s, &book, &inputs, source);
+        writeln!(out, "{} cost {} edges {}", i + 1, cost, edges.len()).unwrap();
+        let mut directions = Vec::new();
+        for e in &edges {
+            // The graph refers to the first of equal segments.
+            assert!(book.first[e.position] == e.position);
+            let leaf = book.segments[e.position].last_ia().map(Vertex::AS);
+            let direction = (Some(e.dst) == leaf) as u8;
+            directions.push(direction | if e.edge.peer.is_some() { 2 } else { 0 });
+            write!(out, "edge {} {} ", e.position, e.edge.shortcut_idx).unwrap();
+            match e.edge.peer {
+                Some(p) => write!(out, "{p}").unwrap(),
+                None => out.push('-'),
+            }
+            write!(out, " {direction} ").unwrap();
+            for b in &e.fp[..4] {
+                write!(out, "{b:02x}").unwrap();
+            }
+            out.push('\n');
+        }
+        match path_of(s) {
+            Came::Path(p) => assert!(print_path(out, &p) == directions),
+            Came::Loop => out.push_str("loop\n"),
+            Came::Refused => out.push_str("encode-refused\n"),
+            Came::Panic(m) if m == "edges are checked to be not empty" => out.push_str("panic\n"),
+            Came::Panic(m) => writeln!(out, "other-panic {m}").unwrap(),
+        }
+    }
+}
+
+fn split(case: &[u8]) -> Option<(IsdAsn, IsdAsn, &[u8])> {
+    let (s, rest) = case.split_first_chunk::<8>()?;
+    let (d, book) = rest.split_first_chunk::<8>()?;
+    Some((
+        IsdAsn(u64::from_be_bytes(*s)),
+        IsdAsn(u64::from_be_bytes(*d)),
+        book,
+    ))
+}
+
+fn cases(mut bytes: &[u8]) -> Vec<&[u8]> {
+    let mut out = Vec::new();
+    while let Some((n, rest)) = bytes.split_first_chunk::<4>() {
+        let n = u32::from_be_bytes(*n) as usize;
+        assert!(n <= rest.len(), "the batch file ends within a case");
+        out.push(&rest[..n]);
+        bytes = &rest[n..];
+    }
+    assert!(bytes.is_empty(), "the batch file ends within a length");
+    out
+}
+
+#[derive(Default, Clone, Copy)]
+struct Times {
+    decode: u128,
+    search: u128,
+    paths: u128,
+    fingerprints: u128,
+    solutions: u64,
+    with_path: u64,
+}
+
+/// One case's full work, timed by part, with the entry type that notes nothing.
+fn bench_one(case: &[u8], t: &mut Times) {
+    let Some((source, destination, bytes)) = split(case) else {
+        return;
+    };
+    let t0 = Instant::now();
+    let Ok(book) = book::decode::<false>(bytes, false) else {
+        return;
+    };
+    let t1 = Instant::now();
+    t.decode += (t1 - t0).as_nanos();
+    if source == destination {
+        return;
+    }
+    let mut graph = MultiGraph::new(number_of_hops);
+    let (cores, non_cores) = book.segments.split_at(book.cores);
+    graph.add_segments(
+        cores
+            .iter()
+            .map(InputSegment::new_core)
+            .chain(non_cores.iter().map(InputSegment::new_non_core)),
+    );
+    let solutions = graph.get_paths(source, destination);
+    let t2 = Instant::now();
+    t.search += (t2 - t1).as_nanos();
+    let paths: Vec<Came> = solutions.iter().map(path_of).collect();
+    let t3 = Instant::now();
+    t.paths += (t3 - t2).as_nanos();
+    // What of the above `ScionPath::new` spent on its two fingerprints: done once more.
+    let mut sum = 0u64;
+    for p in &paths {
+        if let Came::Path(p) = p {
+            sum += DpPathFingerprint::from_scion_path(p).as_ref()[0] as u64;
+            sum += PathFingerprint::try_from_scion_path(p).map_or(0, |f| f.as_ref()[0] as u64);
+        }
+    }
+    std::hint::black_box(sum);
+    t.fingerprints += t3.elapsed().as_nanos();
+    t.solutions += solutions.len() as u64;
+    t.with_path += paths.iter().filter(|p| matches!(p, Came::Path(_))).count() as u64;
+}
+
+fn show(label: &str, t: &Times) {
+    println!(
+        "{label} solutions {} paths {} decode_ns {} a_ns {} b_ns {} fingerprints_ns {}",
+        t.solutions,
+        t.with_path,
+        t.decode,
+        t.search,
+        t.search + t.paths,
+        t.fingerprints
+    );
+}
+
+fn bench(file: &str, n: u64, each: bool) {
+    let bytes = std::fs::read(file).expect("the batch file is readable");
+    let cases = cases(&bytes);
+    let mut all = Times::default();
+    for (i, case) in cases.iter().enumerate() {
+        let mut t = Times::default();
+        for _ in 0..n {
+            bench_one(case, &mut t);
+        }
+        if each {
+            show(&format!("case {i}"), &t);
+        }
+        all.decode += t.decode;
+        all.search += t.search;
+        all.paths += t.paths;
+        all.fingerprints += t.fingerprints;
+        all.solutions += t.solutions;
+        all.with_path += t.with_path;
+    }
+    show(&format!("total cases {} times {n}", cases.len()), &all);
+}
+
+pub fn main() {
+    std::panic::set_hook(Box::new(|info| {
+        let m = info
+            .payload()
+            .downcast_ref::<&str>()
+            .map(|s| s.to_string())
+            .or_else(|| info.payload().downcast_ref::<String>().cloned())
+            .unwrap_or_default();
+        // Panics of graph.rs are answers; any other is a fault of the oracle and is shown.
+        if !info.location().is_some_and(|l| l.file().ends_with("combinator/graph.rs")) {
+            eprintln!("{info}");
+        }
+        PANIC.with(|p| *p.borrow_mut() = m);
+    }));
+
+    let mut args: Vec<String> = std::env::args().skip(1).collect();
+    let mut flag = |name: &str| {
+        let had = args.len();
+        args.retain(|a| a != name);
+        args.len() != had
+    };
+    let each = flag("--each");
+    let flags = Flags {
+        no_wrapper: flag("--no-wrapper"),
+        numbers: flag("--numbers"),
+    };
+    let args: Vec<&str> = args.iter().map(|s| s.as_str()).collect();
+    let stdin = || {
+        let mut v = Vec::new();
+        std::io::stdin().read_to_end(&mut v).expect("stdin is readable");
+        v
+    };
+    let mut stdout = std::io::BufWriter::new(std::io::stdout().lock());
+    let mut say = |text: &str| {
+        if stdout.write_all(text.as_bytes()).and_then(|()| stdout.flush()).is_err() {
+            // The reader went away.
+            std::process::exit(1);
+        }
+    };
+    match args.as_slice() {
+        [] => {
+            let mut out = String::new();
+            block(&mut out, &stdin(), flags);
+            say(&out);
+        }
+        ["--batch", rest @ ..] => {
+            let bytes = match rest {
+                [] => stdin(),
+                [f] => std::fs::read(f).expect("the batch file is readable"),
+                _ => panic!("--batch [FILE]"),
+            };
+            let mut out = String::new();
+            for (i, case) in cases(&bytes).into_iter().enumerate() {
+                out.clear();
+                if i > 0 {
+                    out.push_str("---\n");
+                }
+                block(&mut out, case, flags);
+                say(&out);
+            }
+        }
+        ["--bench", file, n] => bench(file, n.parse().expect("a number"), each),
+        ["--given"] => print!("{}", include_str!(concat!(env!("OUT_DIR"), "/given.txt"))),
+        _ => {
+            eprintln!(
+                "oracle [--no-wrapper] [--numbers] < CASE\n\
+                 oracle --batch [FILE] [--no-wrapper] [--numbers]\n\
+                 oracle --bench FILE N [--each]\n\
+                 oracle --given"
+            );
+            std::process::exit(2);
+        }
+    }
+}

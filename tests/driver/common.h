@@ -1,0 +1,51 @@
+/* What the driver's modes share. */
+#ifndef COMMON_H
+#define COMMON_H
+
+#include <stddef.h>
+#include <stdint.h>
+
+/* Big-endian numbers. */
+uint64_t number(const uint8_t *at, int size);
+void put(uint8_t *at, int size, uint64_t n);
+
+/* Memory, or the program ends. */
+void *resize(void *old, size_t bytes);
+void *grow(void *old, size_t *room, size_t size);
+
+uint8_t *read_file(const char *name, size_t *len);
+
+/* A case: source, destination, book. */
+struct input {
+    uint64_t src, dst;
+    const uint8_t *book;
+    size_t book_len;
+};
+
+/* The next case of a batch at *at: 1, or 0 at the end. A case under 16 bytes has no book (NULL). */
+int next_case(const uint8_t *batch, size_t len, size_t *at, struct input *c);
+
+/* Time of the clock, and of this thread's own work. */
+uint64_t now_ns(void);
+uint64_t work_ns(void);
+
+/* The length of a path's record by its counts. */
+size_t path_length(const uint8_t *path);
+
+/* Demand 3 on a path's bytes: feeds the path to a router and compares ids, infos and hops with the book. NULL where
+ * all holds, else what does not. */
+const char *router_fault(const struct input *c, const uint8_t *record, const uint8_t *path);
+
+/* Prints to standard error and ends the program with status 1 (2: bad usage). */
+void fail(const char *format, ...);
+void usage(const char *format, ...);
+
+/* The modes; `arg` is what follows the mode's name. */
+int batch_mode(int args, char **arg);
+int replay_mode(int args, char **arg);
+int bench_mode(int args, char **arg);
+int scale_mode(int args, char **arg);
+int stack_mode(int args, char **arg);
+int fuzz_mode(int args, char **arg);
+
+#endif

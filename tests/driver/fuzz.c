@@ -1,0 +1,796 @@
+/* fuzz SEED COUNT|SECONDSs [FIRST] [--undefined]
+ *
+ * First a fixed sweep: every length near each boundary, every output length near a slot's end, every byte of a record
+ * changed to every value. Then COUNT turns, or as many as SECONDS allow. A turn draws its choices from SEED and its own
+ * number alone, so that FIRST (with COUNT 1) runs one turn again.
+ *
+ * Every call is held to the model in all of its output and in its answer. Its buffers have guard bytes on both sides and
+ * stand against a page that cannot be touched, at the one end or the other, or in a block of the heap of their exact
+ * size, for AddressSanitizer and valgrind; the book and the record must be left as they were. --undefined leaves the
+ * outputs in the heap unset, so that valgrind sees a use of what they held. */
+#include <inttypes.h>
+#include <signal.h>
+#include <stdio.h>
+#include <stdlib.h>
+#include <string.h>
+#include <sys/mman.h>
+
+#include "build.h"
+#include "combinator.h"
+#include "common.h"
+#include "model.h"
+
+#define MAX_BOOK 80000
+#define MAX_OUT 140000
+#define GUARD 64
+
+/* ---- choices */
+
+static uint64_t state;
+
+static uint64_t draw(void)
+{
+    uint64_t z = state += UINT64_C(0x9e3779b97f4a7c15);
+    z = (z ^ z >> 30) * UINT64_C(0xbf58476d1ce4e5b9);
+    z = (z ^ z >> 27) * UINT64_C(0x94d049bb133111eb);
+    return z ^ z >> 31;
+}
+
+/* Below n. */
+static unsigned pick(unsigned n)
+{
+    return (unsigned)(draw() % n);
+}
+
+static int one_in(unsigned n)
+{
+    return pick(n) == 0;
+}
+
+/* ---- buffers */
+
+enum where { AT_END, AT_START, IN_HEAP, PLACES };
+
+struct area {
+    uint8_t *pages; /* between two pages that cannot be touched */
+    size_t size;
+    uint8_t *heap;
+};
+
+static struct area book_area, record_area, out_area;
+static int undefined;
+
+static void make_area(struct area *a, size_t room)
+{
+    size_t page = 4096;
+    a->size = (room + 2 * GUARD + page - 1) / page * page;
+    a->pages = mmap(NULL, a->size + 2 * page, PROT_NONE, MAP_PRIVATE | MAP_ANONYMOUS, -1, 0);
+    if (a->pages == MAP_FAILED)
+        fail("mmap");
+    a->pages += page;
+    if (mprotect(a->pages, a->size, PROT_READ | PROT_WRITE))
+        fail("mprotect");
+    a->heap = NULL;
+}
+
+static uint8_t guard_byte(size_t i)
+{
+    return (uint8_t)(0xc3 ^ i * 7);
+}
+
+/* A buffer of `len` bytes, with its guards set. */
+static uint8_t *place(struct area *a, enum where where, size_t len)
+{
+    uint8_t *p;
+    size_t i;
+    if (where == IN_HEAP) {
+        free(a->heap);
+        /* At least one byte, for a pointer that is not NULL; the sanitizer then knows the exact end of longer ones. */
+        return a->heap = resize(NULL, len);
+    }
+    p = where == AT_END ? a->pages + a->size - len : a->pages;
+    for (i = 0; i < GUARD; i++) {
+        if (where == AT_END)
+            p[-1 - (ptrdiff_t)i] = guard_byte(i);
+        else
+            p[len + i] = guard_byte(i);
+    }
+    return p;
+}
+
+static int guards_hold(const uint8_t *p, enum where where, size_t len)
+{
+    size_t i;
+    for (i = 0; where != IN_HEAP && i < GUARD; i++)
+        if ((where == AT_END ? p[-1 - (ptrdiff_t)i] : p[len + i]) != guard_byte(i))
+            return 0;
+    return 1;
+}
+
+/* ---- one call, held to the model */
+
+static struct {
+    uint64_t turn; /* 0: the sweep */
+    const char *kind;
+    uint64_t src, dst;
+    uint8_t book[MAX_BOOK];
+    size_t book_len;
+    uint8_t record[64];
+    size_t record_len;
+} now;
+
+struct longest {
+    uint64_t ns, turn, calls;
+    size_t book_len;
+    uint32_t answer;
+};
+
+static struct longest longest_list, longest_assemble;
+static uint64_t refused[11], paths, loops, bares;
+
+static void print_bytes(const char *name, const uint8_t *p, size_t n)
+{
+    size_t i;
+    fprintf(stderr, "%s %zu bytes ", name, n);
+    for (i = 0; i < n; i++)
+        fprintf(stderr, "%02x", p[i]);
+    fputc('\n', stderr);
+}
+
+static void wrong(const char *call, const char *what, size_t out_len, uint32_t answer, uint32_t want)
+{
+    fprintf(stderr, "turn %" PRIu64 " (%s): %s: %s; answer %" PRIu32 ", the model's %" PRIu32 ", output of %zu bytes\n", now.turn, now.kind, call,
+            what, answer, want, out_len);
+    fprintf(stderr, "source %016" PRIx64 " destination %016" PRIx64 "\n", now.src, now.dst);
+    print_bytes("record", now.record, now.record_len);
+    print_bytes("book", now.book, now.book_len);
+    exit(1);
+}
+
+/* A page beside a buffer was touched, as a rule. */
+static void fault(int signal_number)
+{
+    signal(signal_number, SIG_DFL);
+    fprintf(stderr, "turn %" PRIu64 " (%s): signal %d, book of %zu bytes, record of %zu\n", now.turn, now.kind, signal_number, now.book_len,
+            now.record_len);
+    raise(signal_number);
+}
+
+static uint8_t expected[MAX_OUT];
+
+/* Listing, or assembly of now.record. The output that came is at the returned place until the next call. */
+static const uint8_t *check(int assemble, size_t out_len, uint32_t *answered)
+{
+    enum where book_at = (enum where)pick(PLACES), record_at = (enum where)pick(PLACES), out_at = (enum where)pick(PLACES);
+    uint8_t *book = place(&book_area, book_at, now.book_len), *record = place(&record_area, record_at, now.record_len);
+    uint8_t *out = place(&out_area, out_at, out_len);
+    const char *call = assemble ? "assembly" : "listing";
+    struct longest *longest = assemble ? &longest_assemble : &longest_list;
+    uint32_t answer, want;
+    uint64_t start, ns;
+    size_t i;
+
+    if (now.book_len)
+        memcpy(book, now.book, now.book_len);
+    if (now.record_len)
+        memcpy(record, now.record, now.record_len);
+    if (!(undefined && out_at == IN_HEAP))
+        memset(out, (int)pick(256), out_len);
+    want = assemble ? model_assemble(now.src, now.dst, now.book, now.book_len, now.record, now.record_len, expected, out_len)
+                    : model_list(now.src, now.dst, now.book, now.book_len, expected, out_len);
+    start = work_ns();
+    answer = assemble ? combinator_assemble(now.src, now.dst, book, now.book_len, record, now.record_len, out, out_len)
+                      : combinator_list(now.src, now.dst, book, now.book_len, out, out_len);
+    ns = work_ns() - start;
+
+    if (!guards_hold(out, out_at, out_len))
+        wrong(call, "bytes beside the output were written", out_len, answer, want);
+    if (!guards_hold(book, book_at, now.book_len) || memcmp(book, now.book, now.book_len))
+        wrong(call, "the book, or bytes beside it, were written", out_len, answer, want);
+    if (!guards_hold(record, record_at, now.record_len) || memcmp(record, now.record, now.record_len))
+        wrong(call, "the record, or bytes beside it, were written", out_len, answer, want);
+    if (COMBINATOR_IS_REFUSAL(answer))
+        for (i = 0; i < out_len; i++)
+            if (out[i])
+                wrong(call, "the output is not zero after a refusal", out_len, answer, want);
+    if (answer != want)
+        wrong(call, "another answer", out_len, answer, want);
+    if (out_len && memcmp(out, expected, out_len))
+        wrong(call, "another output", out_len, answer, want);
+
+    longest->calls++;
+    if (ns > longest->ns) {
+        longest->ns = ns;
+        longest->turn = now.turn;
+        longest->book_len = now.book_len;
+        longest->answer = answer;
+    }
+    if (COMBINATOR_IS_REFUSAL(answer))
+        refused[COMBINATOR_REFUSAL(answer)]++;
+    else if (assemble) {
+        paths += answer == COMBINATOR_PATH;
+        loops += answer == COMBINATOR_LOOP;
+        bares += answer == COMBINATOR_BARE;
+    }
+    if (assemble && answer == COMBINATOR_PATH) {
+        struct input c;
+        const char *disagrees;
+        c.src = now.src;
+        c.dst = now.dst;
+        c.book = now.book;
+        c.book_len = now.book_len;
+        disagrees = router_fault(&c, now.record, out);
+        if (disagrees)
+            wrong(call, disagrees, out_len, answer, want);
+    }
+    if (answered)
+        *answered = answer;
+    return out;
+}
+
+static uint32_t check_list(size_t out_len)
+{
+    uint32_t answer;
+    now.record_len = 0;
+    check(0, out_len, &answer);
+    return answer;
+}
+
+static uint32_t check_record(const uint8_t *record, size_t record_len, size_t out_len)
+{
+    uint32_t answer;
+    if (record_len)
+        memmove(now.record, record, record_len);
+    now.record_len = record_len;
+    check(1, out_len, &answer);
+    return answer;
+}
+
+/* ---- books */
+
+static struct build b;
+
+struct link {
+    uint64_t as, other;
+    unsigned interface, other_interface;
+};
+
+/* A book of few ASes and few interfaces, so that segments join, repeat an AS, and have equal ends. */
+static void draw_book(void)
+{
+    uint64_t as[10];
+    struct link link[8];
+    uint64_t leaf[64];
+    unsigned ases = 2 + pick(9), links = pick(9), interfaces = 1 + pick(3), zero = 1 + pick(8), leaves = 0, segments, cores, i, j, k, p;
+    int large = one_in(40), tidy = one_in(2);
+
+    for (i = 0; i < ases; i++)
+        as[i] = AS_DESTINATION + i;
+    if (one_in(8))
+        as[0] = 0, as[1] = UINT64_MAX;
+    for (i = 0; i < links; i++) {
+        link[i].as = as[pick(ases)];
+        link[i].other = as[pick(ases)];
+        link[i].interface = pick(3);
+        link[i].other_interface = pick(3);
+    }
+    segments = large ? 20 + pick(45) : pick(8);
+    cores = pick(segments + 1) / (1 + pick(3));
+    build_start(&b);
+    for (i = 0; i < segments; i++) {
+        unsigned entries = large ? pick(17) : one_in(12) ? pick(17) : pick(6);
+        uint8_t *body = b.bodies + b.length;
+        if (8 + 10 * segments + b.length + 16 * (26 + 4 * 23) > MAX_BOOK)
+            break;
+        if (i != cores && i > 0 && one_in(5)) {
+            /* The segment before, once more: equal, or of another timestamp, id or byte. */
+            uint8_t *head = b.heads + 10 * (i - 1);
+            size_t n = (size_t)number(head + 8, 2);
+            build_segment(&b, i < cores, (uint32_t)number(head, 4) + (one_in(4) ? 1 : 0), (unsigned)number(head + 4, 2) ^ (one_in(4) ? 1 : 0));
+            memcpy(body, body - n, n);
+            memcpy(head + 10 + 6, head + 6, 4);
+            b.length += n;
+            /* A byte that is neither a peer count nor the AS, as the first entry has them. */
+            if (n && one_in(3))
+                body[8 + pick(17)] ^= (uint8_t)(1 + pick(255));
+            continue;
+        }
+        build_segment(&b, i < cores, one_in(6) ? (uint32_t)draw() : one_in(6) ? UINT32_MAX - pick(400) : 1000000, (unsigned)draw() & 0xffff);
+        for (j = 0; j < entries; j++) {
+            unsigned in = tidy && j == 0 ? 0 : one_in(zero) ? 0 : 1 + pick(interfaces), eg = tidy && j + 1 == entries ? 0 : one_in(zero) ? 0 : 1 + pick(interfaces);
+            build_entry(&b, as[pick(ases)], in, eg, draw());
+            if (one_in(5))
+                put(b.entry + 8, 4, one_in(2) ? 65536 + pick(3) : draw());
+            put(b.entry + 12, 2, one_in(3) ? 0 : one_in(4) ? draw() : 1280 + pick(200));
+            b.entry[18] = (uint8_t)(one_in(3) ? draw() : 63);
+            for (k = 0, p = 0; k < links && p < 4; k++) {
+                uint64_t here = number(b.entry, 8);
+                int side = here == link[k].as ? 0 : here == link[k].other ? 1 : -1;
+                if (side < 0 ? !one_in(12) : one_in(3))
+                    continue;
+                if (side == 1)
+                    build_peer(&b, link[k].as, link[k].interface, link[k].other_interface, pick(3), draw());
+                else
+                    build_peer(&b, link[k].other, link[k].other_interface, link[k].interface, pick(3), draw());
+                put(b.bodies + b.length - 13, 2, one_in(4) ? 0 : draw());
+                b.bodies[b.length - 11] = (uint8_t)(one_in(2) ? draw() : 63);
+                p++;
+                if (one_in(5) && k > 0)
+                    k--; /* the same link once more */
+            }
+        }
+        if (entries && leaves < 64)
+            leaf[leaves++] = number(b.entry, 8);
+    }
+    now.book_len = build_book(&b, now.book);
+    now.src = leaves && !one_in(4) ? leaf[pick(leaves)] : as[pick(ases)];
+    now.dst = leaves && !one_in(4) ? leaf[pick(leaves)] : as[pick(ases)];
+    if (now.src == now.dst && !one_in(8))
+        now.dst = as[pick(ases)];
+}
+
+static unsigned segment_count(void)
+{
+    return now.book_len < 8 ? 0 : (unsigned)(number(now.book, 2) + number(now.book + 2, 2));
+}
+
+static void damage_bytes(void)
+{
+    unsigned n = 1 + pick(4);
+    size_t front = now.book_len < 80 ? now.book_len : 80;
+    while (n-- && now.book_len)
+        now.book[one_in(2) ? pick((unsigned)front) : pick((unsigned)now.book_len)] = one_in(2) ? (uint8_t)pick(20) : (uint8_t)draw();
+}
+
+static void damage_length(void)
+{
+    unsigned n = 1 + pick(30);
+    if (one_in(2)) {
+        now.book_len -= n < now.book_len ? n : now.book_len;
+    } else if (one_in(8)) {
+        size_t to = COMBINATOR_MAX_BOOK - 1 + pick(4);
+        if (to > now.book_len) {
+            memset(now.book + now.book_len, 0, to - now.book_len);
+            now.book_len = to;
+        }
+    } else if (now.book_len + n <= MAX_BOOK) {
+        memset(now.book + now.book_len, (int)pick(256), n);
+        now.book_len += n;
+    }
+}
+
+/* Numbers by which a book is read: one a little off, or at an end of its range. */
+static void damage_counts(void)
+{
+    unsigned segments = segment_count(), n = 1 + pick(3);
+    while (n--) {
+        size_t at;
+        int size = 2;
+        uint64_t v;
+        if (segments && segments <= 64 && now.book_len >= 8 + 10 * segments && !one_in(3))
+            at = 8 + 10 * pick(segments) + (one_in(2) ? 6 : 8);
+        else if (one_in(2))
+            at = 4, size = 4;
+        else
+            at = one_in(2) ? 0 : 2;
+        if (at + (size_t)size > now.book_len)
+            return;
+        v = number(now.book + at, size);
+        switch (pick(8)) {
+        case 0:
+            v = 0;
+            break;
+        case 1:
+            v = UINT64_MAX;
+            break;
+        case 2:
+            v = draw();
+            break;
+        case 3:
+            v += 26;
+            break;
+        case 4:
+            v -= 23;
+            break;
+        default:
+            v += one_in(2) ? 1 : UINT64_MAX;
+        }
+        put(now.book + at, size, v);
+    }
+}
+
+/* Bytes of one body counted to another: the sum still holds. */
+static void damage_split(void)
+{
+    unsigned segments = segment_count(), i, j, n, room;
+    uint8_t *from, *to;
+    if (segments < 2 || segments > 64 || now.book_len < 8 + 10 * segments)
+        return;
+    i = pick(segments);
+    j = pick(segments);
+    from = now.book + 8 + 10 * i + 8;
+    to = now.book + 8 + 10 * j + 8;
+    room = (unsigned)number(from, 2);
+    n = one_in(2) ? 26 : pick(room + 1);
+    if (n > room)
+        n = room;
+    put(from, 2, room - n);
+    put(to, 2, number(to, 2) + n);
+}
+
+static void random_bytes(void)
+{
+    size_t i;
+    now.book_len = one_in(20) ? pick(MAX_BOOK) : pick(300);
+    for (i = 0; i < now.book_len; i++)
+        now.book[i] = one_in(3) ? 0 : (uint8_t)draw();
+    /* Often sizes that fit. */
+    if (now.book_len >= 8 && !one_in(4)) {
+        unsigned count = pick(6);
+        if (now.book_len >= 8 + 10 * count) {
+            put(now.book, 2, pick(count + 1));
+            put(now.book + 2, 2, count - number(now.book, 2));
+            put(now.book + 4, 4, now.book_len - 8 - 10 * count);
+        }
+    }
+    now.src = AS_SOURCE;
+    now.dst = AS_DESTINATION;
+}
+
+/* ---- a turn */
+
+static size_t some_out_len(size_t count)
+{
+    switch (pick(6)) {
+    case 0:
+        return pick(70);
+    case 1:
+        return 16 * count;
+    case 2:
+        return 16 * count + pick(33);
+    case 3:
+        return 16 * count - (count ? 1 + pick(16) : 0);
+    case 4:
+        return one_in(4) ? 65536 - 17 + pick(35) : pick(MAX_OUT);
+    default:
+        return 16 * count + pick(1000);
+    }
+}
+
+static uint8_t listed[16 * 64];
+
+/* Lists the book, assembles its solutions, and asks for records that are none. */
+static void use_book(unsigned records)
+{
+    uint32_t answer;
+    unsigned n, i;
+    size_t room = one_in(8) ? 65536 : 16 * 64;
+    const uint8_t *out;
+    now.record_len = 0;
+    out = check(0, room, &answer);
+    n = COMBINATOR_IS_REFUSAL(answer) ? 0 : answer < 64 ? answer : 64;
+    memcpy(listed, out, 16 * n);
+    check_list(some_out_len(COMBINATOR_IS_REFUSAL(answer) ? 0 : answer));
+    for (i = 0; i < n && i < records; i++)
+        check_record(listed + 16 * i, 16, one_in(4) ? COMBINATOR_PATH_SIZE + pick(40) : COMBINATOR_PATH_SIZE);
+    /* Too small an output, another length of record, another record. */
+    check_record(listed, n ? 16 : pick(17), one_in(2) ? COMBINATOR_PATH_SIZE - 1 : pick(COMBINATOR_PATH_SIZE));
+    check_record(listed, pick(40), one_in(2) ? COMBINATOR_PATH_SIZE : COMBINATOR_PATH_SIZE - pick(3));
+    for (i = 0; i < 4; i++) {
+        uint8_t r[16];
+        unsigned j;
+        if (n)
+            memcpy(r, listed + 16 * pick(n), 16);
+        else
+            for (j = 0; j < 16; j++)
+                r[j] = (uint8_t)(one_in(2) ? 0 : pick(4));
+        for (j = 1 + pick(2); j > 0; j--)
+            r[pick(16)] = (uint8_t)(one_in(4) ? draw() : pick(5));
+        if (n && one_in(4))
+            memcpy(r + 4 + 4 * pick(3), listed + 16 * pick(n) + 4 + 4 * pick(3), 4);
+        check_record(r, 16, COMBINATOR_PATH_SIZE);
+    }
+    /* The other way round the same records are strangers, as a rule. */
+    if (n && one_in(4)) {
+        uint64_t s = now.src;
+        now.src = now.dst;
+        now.dst = s;
+        check_record(listed, 16, COMBINATOR_PATH_SIZE);
+    }
+}
+
+static void turn(uint64_t seed, uint64_t number_of_turn)
+{
+    state = seed * UINT64_C(0xd1342543de82ef95) + number_of_turn;
+    draw();
+    now.turn = number_of_turn;
+    switch (pick(10)) {
+    case 0:
+        now.kind = "random bytes";
+        random_bytes();
+        use_book(1);
+        break;
+    case 1:
+    case 2:
+    case 3:
+    case 4:
+        now.kind = "a book";
+        draw_book();
+        use_book(16);
+        break;
+    case 5:
+        now.kind = "bytes changed";
+        draw_book();
+        damage_bytes();
+        use_book(2);
+        break;
+    case 6:
+        now.kind = "another length";
+        draw_book();
+        damage_length();
+        use_book(1);
+        break;
+    case 7:
+        now.kind = "counts changed";
+        draw_book();
+        damage_counts();
+        use_book(1);
+        break;
+    case 8:
+        now.kind = "bodies cut elsewhere";
+        draw_book();
+        damage_split();
+        use_book(1);
+        break;
+    default:
+        now.kind = "several kinds of damage";
+        draw_book();
+        if (one_in(2))
+            damage_bytes();
+        if (one_in(2))
+            damage_counts();
+        if (one_in(2))
+            damage_length();
+        use_book(1);
+    }
+}
+
+/* ---- the sweep */
+
+static void sweep_lengths(void)
+{
+    size_t n, whole;
+    unsigned i, c;
+    now.kind = "lengths of a book";
+    /* All zero, and all ones: every length to 700, and near the limit. */
+    for (i = 0; i < 2; i++) {
+        memset(now.book, i ? 0xff : 0, sizeof now.book);
+        for (n = 0; n < sizeof now.book; n = n == 700 ? COMBINATOR_MAX_BOOK - 8 : n == COMBINATOR_MAX_BOOK + 8 ? 65530 : n == 65545 ? sizeof now.book - 1 : n + 1) {
+            now.book_len = n;
+            check_list(48);
+            check_record(now.book, 16, COMBINATOR_PATH_SIZE);
+        }
+    }
+    /* The worked book at every length, and longer. */
+    whole = build_worked(now.book);
+    memset(now.book + whole, 0, 40);
+    for (n = 0; n < whole + 40; n++) {
+        now.book_len = n;
+        check_list(64);
+    }
+    now.kind = "counts of segments";
+    memset(now.book, 0, sizeof now.book);
+    for (c = 60; c < 70; c++)
+        for (i = 0; i <= c; i += c - i > 3 && i > 3 ? c / 3 : 1) {
+            put(now.book, 2, i);
+            put(now.book + 2, 2, c - i);
+            for (n = 8 + 10 * c - 2; n <= 8 + 10 * c + 2; n++) {
+                now.book_len = n;
+                check_list(32);
+            }
+        }
+    for (i = 0; i < 4; i++) {
+        put(now.book, 2, i & 1 ? 65535 : 0);
+        put(now.book + 2, 2, i & 2 ? 65535 : 0);
+        for (c = 0; c < 3; c++) {
+            put(now.book + 4, 4, c == 0 ? 0 : c == 1 ? UINT32_MAX : UINT32_MAX - 61440);
+            for (now.book_len = 6; now.book_len < 30; now.book_len++)
+                check_list(32);
+            now.book_len = COMBINATOR_MAX_BOOK;
+            check_list(32);
+        }
+    }
+}
+
+/* A body of `entries` entries, the last with `peers` peers said and `there` present. */
+static void sweep_bodies(void)
+{
+    unsigned entries, said, there, off, k;
+    now.kind = "entries and peers";
+    for (entries = 0; entries <= 18; entries++)
+        for (said = 0; said <= 6; said++)
+            for (there = 0; there <= 6; there++)
+                for (off = 0; off < 5; off++) {
+                    if (entries == 0 && (said || there))
+                        continue;
+                    build_start(&b);
+                    build_segment(&b, 0, 1000000, 1);
+                    for (k = 0; k < entries; k++)
+                        build_entry(&b, k + 1 == entries ? AS_SOURCE : AS_DESTINATION, 1, 2, k);
+                    for (k = 0; k < there; k++)
+                        build_peer(&b, AS_DESTINATION, 1, 1, 1, k);
+                    if (entries)
+                        b.entry[25] = (uint8_t)(said == 6 ? 255 : said);
+                    /* The length in the head, and the count, one off or not. */
+                    put(b.heads + 8, 2, number(b.heads + 8, 2) + (off == 1) - (uint64_t)(off == 2));
+                    put(b.heads + 6, 2, number(b.heads + 6, 2) + (off == 3) - (uint64_t)(off == 4));
+                    now.book_len = build_book(&b, now.book);
+                    check_list(160);
+                    check_record(now.book, 16, COMBINATOR_PATH_SIZE);
+                }
+    now.kind = "a book at the limit";
+    for (k = 0; k < 60; k++) {
+        unsigned left;
+        build_start(&b);
+        for (entries = 0; 10 * (entries + 1) + b.length + 16 * (26 + 4 * 23) <= 61440 - 8 - 700; entries++) {
+            build_segment(&b, 0, 1000000, entries);
+            for (said = 0; said < 16; said++) {
+                build_entry(&b, said == 15 ? entries % 2 ? AS_SOURCE : AS_DESTINATION : AS_DESTINATION + 16 + said, 1, 2, said);
+                for (there = 0; there < 4; there++)
+                    build_peer(&b, AS_DESTINATION + 16 + said, there, there, 3, there);
+            }
+        }
+        /* Filled up with entries of a last segment, to lengths on both sides of the limit. */
+        left = 61440 - 8 - 10 * (entries + 1) - (unsigned)b.length;
+        build_segment(&b, 0, 1000000, entries);
+        for (said = 0; said < left / 26 + 1 && said < 16 + k % 2; said++) {
+            build_entry(&b, said ? AS_SOURCE : AS_DESTINATION, 1, 2, said);
+            for (there = 0; there < 4 && b.length + 10 * (entries + 1) + 8 + 23 < 61440 - 26 + k; there++)
+                build_peer(&b, AS_DESTINATION, there, there, 3, there);
+        }
+        now.book_len = build_book(&b, now.book);
+        check_list(65536);
+    }
+}
+
+static void sweep_outputs(void)
+{
+    size_t n;
+    unsigned i;
+    static const unsigned sides[][3] = {{1, 0, 1}, {1, 1, 1}, {2, 1, 1}, {4, 4, 4}};
+    now.kind = "lengths of an output";
+    for (i = 0; i < sizeof sides / sizeof *sides; i++) {
+        now.book_len = build_chains(now.book, sides[i][0], sides[i][1], sides[i][2], 0);
+        for (n = 0; n < 1200; n++)
+            check_list(n);
+    }
+    /* 4,096 chains and 4,352. */
+    for (i = 16; i <= 17; i++) {
+        now.book_len = build_chains(now.book, i, 16, 16, 1);
+        for (n = 65536 - 17; n <= 65536 + 32; n++)
+            check_list(n);
+        check_list(0);
+        check_list(15);
+        check_list(65536 + 4096 + 16);
+        check_list(MAX_OUT);
+    }
+    /* Every AS and every link shared: the most work known of a book. */
+    for (i = 1; i <= 16; i++) {
+        now.book_len = build_worst(now.book, i, 16, 4);
+        check_list(65536);
+    }
+    now.book_len = build_chains(now.book, 17, 16, 16, 1);
+    /* Assembly is not Full, and a record is found among 4,352. */
+    {
+        size_t count;
+        const uint8_t *records = model_records(now.src, now.dst, now.book, now.book_len, &count);
+        for (n = 0; n < count; n += 311) {
+            uint8_t r[16];
+            memcpy(r, records + 16 * n, 16);
+            check_record(r, 16, COMBINATOR_PATH_SIZE);
+        }
+    }
+    now.book_len = build_worked(now.book);
+    now.record_len = 0;
+    memcpy(listed, check(0, 64, NULL), 16);
+    for (n = 0; n < 80; n++)
+        check_record(listed, 16, n);
+    for (n = COMBINATOR_PATH_SIZE - 20; n < COMBINATOR_PATH_SIZE + 60; n++)
+        check_record(listed, 16, n);
+    check_record(listed, 16, 65536);
+    check_record(listed, 16, MAX_OUT);
+}
+
+/* Every byte of every record to every value, and every length of a record. */
+static void sweep_records(void)
+{
+    unsigned book, i, at, value, n;
+    now.kind = "records changed";
+    for (book = 0; book < 4; book++) {
+        uint32_t count;
+        const uint8_t *out;
+        if (book == 0)
+            now.book_len = build_worked(now.book);
+        else if (book == 1)
+            now.book_len = build_chains(now.book, 2, 2, 1, 1);
+        else if (book == 2)
+            now.book_len = build_worst(now.book, 1, 3, 2);
+        else
+            now.book_len = build_few(now.book, 3, 4, 1);
+        now.record_len = 0;
+        out = check(0, 16 * 64, &count);
+        if (COMBINATOR_IS_REFUSAL(count))
+            fail("the sweep's book %u is refused", book);
+        n = count < 64 ? count : 64;
+        memcpy(listed, out, 16 * n);
+        for (i = 0; i < n; i += n > 8 ? n / 8 : 1) {
+            uint8_t r[40];
+            for (at = 0; at < 16; at++)
+                for (value = 0; value < 256; value++) {
+                    memcpy(r, listed + 16 * i, 16);
+                    r[at] = (uint8_t)value;
+                    check_record(r, 16, COMBINATOR_PATH_SIZE);
+                }
+            memset(r, 0, sizeof r);
+            memcpy(r, listed + 16 * i, 16);
+            for (at = 0; at <= sizeof r; at++)
+                check_record(r, at, COMBINATOR_PATH_SIZE);
+        }
+    }
+}
+
+static void sweep(void)
+{
+    now.turn = 0;
+    now.src = AS_SOURCE;
+    now.dst = AS_DESTINATION;
+    state = 1;
+    sweep_lengths();
+    sweep_bodies();
+    sweep_outputs();
+    sweep_records();
+}
+
+static void report(const char *call, const struct longest *l)
+{
+    printf("%s: %" PRIu64 " calls, the longest %.3f ms (turn %" PRIu64 ", book of %zu bytes, answer %" PRIu32 ")\n", call, l->calls,
+           (double)l->ns / 1e6, l->turn, l->book_len, l->answer);
+}
+
+int fuzz_mode(int args, char **arg)
+{
+    uint64_t seed, limit, first = 1, turns = 0, start = now_ns();
+    int seconds, i;
+    if (args > 0 && !strcmp(arg[args - 1], "--undefined")) {
+        undefined = 1;
+        args--;
+    }
+    if (args < 2 || args > 3)
+        usage("driver fuzz SEED COUNT|SECONDSs [FIRST] [--undefined]");
+    seed = strtoull(arg[0], NULL, 10);
+    limit = strtoull(arg[1], NULL, 10);
+    seconds = strchr(arg[1], 's') != NULL;
+    signal(SIGSEGV, fault);
+    signal(SIGBUS, fault);
+    make_area(&book_area, MAX_BOOK);
+    make_area(&record_area, 64);
+    make_area(&out_area, MAX_OUT);
+    if (args == 3)
+        first = strtoull(arg[2], NULL, 10);
+    else
+        sweep();
+    printf("the sweep took %.1f s\n", (double)(now_ns() - start) / 1e9);
+    start = now_ns();
+    while (seconds ? now_ns() - start < limit * 1000000000u : turns < limit) {
+        turn(seed, first + turns);
+        turns++;
+    }
+    printf("seed %" PRIu64 ", %" PRIu64 " turns: every answer and output as the model's, no byte written beside a buffer\n", seed, turns);
+    report("listing", &longest_list);
+    report("assembly", &longest_assemble);
+    printf("assembly gave %" PRIu64 " paths, %" PRIu64 " loop, %" PRIu64 " bare; refusals", paths, loops, bares);
+    for (i = 1; i <= 10; i++)
+        printf(" %d: %" PRIu64, i, refused[i]);
+    printf("\n");
+    return 0;
+}

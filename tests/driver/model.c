@@ -1,0 +1,603 @@
+#include "model.h"
+
+#include <stdlib.h>
+#include <string.h>
+
+#include "common.h"
+
+/* ---- SHA-256, FIPS 180-4 */
+
+static const uint32_t K[64] = {
+    0x428a2f98, 0x71374491, 0xb5c0fbcf, 0xe9b5dba5, 0x3956c25b, 0x59f111f1, 0x923f82a4, 0xab1c5ed5, 0xd807aa98, 0x12835b01, 0x243185be,
+    0x550c7dc3, 0x72be5d74, 0x80deb1fe, 0x9bdc06a7, 0xc19bf174, 0xe49b69c1, 0xefbe4786, 0x0fc19dc6, 0x240ca1cc, 0x2de92c6f, 0x4a7484aa,
+    0x5cb0a9dc, 0x76f988da, 0x983e5152, 0xa831c66d, 0xb00327c8, 0xbf597fc7, 0xc6e00bf3, 0xd5a79147, 0x06ca6351, 0x14292967, 0x27b70a85,
+    0x2e1b2138, 0x4d2c6dfc, 0x53380d13, 0x650a7354, 0x766a0abb, 0x81c2c92e, 0x92722c85, 0xa2bfe8a1, 0xa81a664b, 0xc24b8b70, 0xc76c51a3,
+    0xd192e819, 0xd6990624, 0xf40e3585, 0x106aa070, 0x19a4c116, 0x1e376c08, 0x2748774c, 0x34b0bcb5, 0x391c0cb3, 0x4ed8aa4a, 0x5b9cca4f,
+    0x682e6ff3, 0x748f82ee, 0x78a5636f, 0x84c87814, 0x8cc70208, 0x90befffa, 0xa4506ceb, 0xbef9a3f7, 0xc67178f2,
+};
+
+static uint32_t rotate(uint32_t x, int n)
+{
+    return x >> n | x << (32 - n);
+}
+
+static void block(uint32_t h[8], const uint8_t *p)
+{
+    uint32_t w[64], s[8];
+    int t;
+    for (t = 0; t < 16; t++)
+        w[t] = (uint32_t)number(p + 4 * t, 4);
+    for (; t < 64; t++) {
+        uint32_t a = w[t - 15], b = w[t - 2];
+        w[t] = w[t - 16] + (rotate(a, 7) ^ rotate(a, 18) ^ a >> 3) + w[t - 7] + (rotate(b, 17) ^ rotate(b, 19) ^ b >> 10);
+    }
+    memcpy(s, h, sizeof s);
+    for (t = 0; t < 64; t++) {
+        uint32_t e = s[4], a = s[0];
+        uint32_t t1 = s[7] + (rotate(e, 6) ^ rotate(e, 11) ^ rotate(e, 25)) + ((e & s[5]) ^ (~e & s[6])) + K[t] + w[t];
+        uint32_t t2 = (rotate(a, 2) ^ rotate(a, 13) ^ rotate(a, 22)) + ((a & s[1]) ^ (a & s[2]) ^ (s[1] & s[2]));
+        memmove(s + 1, s, 7 * sizeof *s);
+        s[4] += t1;
+        s[0] = t1 + t2;
+    }
+    for (t = 0; t < 8; t++)
+        h[t] += s[t];
+}
+
+void model_sha256(const uint8_t *data, size_t len, uint8_t digest[32])
+{
+    uint32_t h[8] = {0x6a09e667, 0xbb67ae85, 0x3c6ef372, 0xa54ff53a, 0x510e527f, 0x9b05688c, 0x1f83d9ab, 0x5be0cd19};
+    uint8_t last[128] = {0};
+    size_t whole = len / 64 * 64, rest = len - whole, end = rest < 56 ? 64 : 128, i;
+    for (i = 0; i < whole; i += 64)
+        block(h, data + i);
+    memcpy(last, data + whole, rest);
+    last[rest] = 0x80;
+    put(last + end - 8, 8, (uint64_t)len * 8);
+    for (i = 0; i < end; i += 64)
+        block(h, last + i);
+    for (i = 0; i < 8; i++)
+        put(digest + 4 * i, 4, h[i]);
+}
+
+/* ---- the book */
+
+unsigned model_verdict(const uint8_t *book, size_t len)
+{
+    unsigned count, p, i;
+    uint64_t total, sum = 0;
+    size_t at;
+    if (len > 61440)
+        return 3;
+    if (len < 8)
+        return 1;
+    count = (unsigned)(number(book, 2) + number(book + 2, 2));
+    total = number(book + 4, 4);
+    if (count > 64)
+        return 4;
+    if (len < 8 + 10 * count + total)
+        return 1;
+    if (len > 8 + 10 * count + total)
+        return 2;
+    for (p = 0; p < count; p++) {
+        if (number(book + 8 + 10 * p + 6, 2) > 16)
+            return 5;
+        sum += number(book + 8 + 10 * p + 8, 2);
+    }
+    if (sum != total)
+        return 7;
+    at = 8 + 10 * count;
+    for (p = 0; p < count; p++) {
+        size_t end = at + number(book + 8 + 10 * p + 8, 2);
+        for (i = 0; i < number(book + 8 + 10 * p + 6, 2); i++) {
+            unsigned peers;
+            if (end - at < 26)
+                return 7;
+            peers = book[at + 25];
+            if (peers > 4)
+                return 6;
+            at += 26;
+            if (end - at < 23 * peers)
+                return 7;
+            at += 23 * peers;
+        }
+        if (at != end)
+            return 7;
+    }
+    return 0;
+}
+
+/* ---- stored edges */
+
+/* An AS, or a peering end. */
+struct vertex {
+    int peering;
+    uint64_t local;
+    unsigned local_interface;
+    uint64_t peer;
+    unsigned peer_interface;
+};
+
+struct edge {
+    unsigned position, shortcut, weight;
+    int peer; /* -1 for none */
+    struct vertex start, end;
+};
+
+struct chain {
+    unsigned edges, cost;
+    const struct edge *edge[3];
+};
+
+/* What was worked out of one source, destination and book. */
+static struct {
+    int known;
+    uint64_t src, dst;
+    uint8_t book[61440];
+    size_t len;
+    unsigned count;
+    struct segment segment[64];
+    struct edge *edge; /* by start */
+    size_t edges, edge_room;
+    struct chain *chain;
+    size_t chains, chain_room;
+    uint8_t *record;
+} m;
+
+static struct vertex as_vertex(uint64_t as)
+{
+    struct vertex v = {0, 0, 0, 0, 0};
+    v.local = as;
+    return v;
+}
+
+static struct vertex peering(uint64_t local, unsigned local_interface, uint64_t peer, unsigned peer_interface)
+{
+    struct vertex v;
+    v.peering = 1;
+    v.local = local;
+    v.local_interface = local_interface;
+    v.peer = peer;
+    v.peer_interface = peer_interface;
+    return v;
+}
+
+static int compare(uint64_t a, uint64_t b)
+{
+    return (a > b) - (a < b);
+}
+
+static int compare_vertices(const struct vertex *a, const struct vertex *b)
+{
+    int c = compare((uint64_t)a->peering, (uint64_t)b->peering);
+    if (!c)
+        c = compare(a->local, b->local);
+    if (!c)
+        c = compare(a->local_interface, b->local_interface);
+    if (!c)
+        c = compare(a->peer, b->peer);
+    if (!c)
+        c = compare(a->peer_interface, b->peer_interface);
+    return c;
+}
+
+/* Of edges of one segment (those from `from` on) with equal ends the last stands. */
+static void store(size_t from, unsigned position, struct vertex start, struct vertex end, unsigned shortcut, int peer, unsigned weight)
+{
+    size_t i;
+    for (i = from; i < m.edges; i++)
+        if (!compare_vertices(&m.edge[i].start, &start) && !compare_vertices(&m.edge[i].end, &end))
+            break;
+    if (i == m.edges) {
+        if (m.edges == m.edge_room)
+            m.edge = grow(m.edge, &m.edge_room, sizeof *m.edge);
+        m.edges++;
+    }
+    m.edge[i].position = position;
+    m.edge[i].start = start;
+    m.edge[i].end = end;
+    m.edge[i].shortcut = shortcut;
+    m.edge[i].peer = peer;
+    m.edge[i].weight = weight;
+}
+
+static void store_segment(unsigned position)
+{
+    const struct segment *s = &m.segment[position];
+    unsigned n = s->entries, i, p;
+    size_t from = m.edges;
+    struct vertex leaf;
+    if (n == 0)
+        return;
+    leaf = as_vertex(s->entry[n - 1].as);
+    if (s->core) {
+        struct vertex first = as_vertex(s->entry[0].as);
+        store(from, position, first, leaf, 0, -1, n - 1);
+        store(from, position, leaf, first, 0, -1, n - 1);
+        return;
+    }
+    for (i = n; i-- > 0;) {
+        const struct entry *e = &s->entry[i];
+        if (i < n - 1) {
+            store(from, position, leaf, as_vertex(e->as), i, -1, n - 1 - i);
+            store(from, position, as_vertex(e->as), leaf, i, -1, n - 1 - i);
+        }
+        for (p = 0; p < e->peers; p++) {
+            const struct peer *q = &e->peer[p];
+            store(from, position, leaf, peering(e->as, q->hop.ingress, q->as, q->interface), i, (int)p, n - i);
+            store(from, position, peering(q->as, q->interface, e->as, q->hop.ingress), leaf, i, (int)p, n - 1 - i);
+        }
+    }
+}
+
+static int by_start(const void *a, const void *b)
+{
+    return compare_vertices(&((const struct edge *)a)->start, &((const struct edge *)b)->start);
+}
+
+/* ---- chains */
+
+/* The first edge that leaves v, if any does. */
+static size_t first_from(const struct vertex *v)
+{
+    size_t low = 0, high = m.edges;
+    while (low < high) {
+        size_t middle = (low + high) / 2;
+        if (compare_vertices(&m.edge[middle].start, v) < 0)
+            low = middle + 1;
+        else
+            high = middle;
+    }
+    return low;
+}
+
+static int core(const struct edge *e)
+{
+    return m.segment[e->position].core;
+}
+
+/* One of any kind; two, not both core; three, only non-core, core, non-core. */
+static int allowed(const struct chain *c)
+{
+    switch (c->edges) {
+    case 1:
+        return 1;
+    case 2:
+        return !(core(c->edge[0]) && core(c->edge[1]));
+    default:
+        return !core(c->edge[0]) && core(c->edge[1]) && !core(c->edge[2]);
+    }
+}
+
+/* Every chain that begins with `c`, which stands at `at`. */
+static void extend(const struct chain *c, const struct vertex *at)
+{
+    struct vertex destination = as_vertex(m.dst);
+    size_t i;
+    for (i = first_from(at); i < m.edges && !compare_vertices(&m.edge[i].start, at); i++) {
+        struct chain longer = *c;
+        longer.edge[longer.edges++] = &m.edge[i];
+        longer.cost += m.edge[i].weight;
+        if (!allowed(&longer))
+            continue;
+        if (!compare_vertices(&m.edge[i].end, &destination)) {
+            if (m.chains == m.chain_room)
+                m.chain = grow(m.chain, &m.chain_room, sizeof *m.chain);
+            m.chain[m.chains++] = longer;
+        } else if (longer.edges < 3) {
+            extend(&longer, &m.edge[i].end);
+        }
+    }
+}
+
+/* ---- order */
+
+static int in_order(const void *x, const void *y)
+{
+    const struct chain *a = x, *b = y;
+    unsigned i;
+    int c = compare(a->cost, b->cost);
+    if (!c)
+        c = compare(a->edges, b->edges);
+    for (i = 0; !c && i < a->edges; i++) {
+        const struct edge *e = a->edge[i], *f = b->edge[i];
+        c = compare((uint64_t)(e->peer + 1), (uint64_t)(f->peer + 1));
+        if (!c)
+            c = compare(f->shortcut, e->shortcut);
+        if (!c)
+            c = memcmp(m.segment[e->position].fingerprint, m.segment[f->position].fingerprint, 32);
+    }
+    for (i = 0; !c && i < a->edges; i++)
+        c = compare(a->edge[i]->position, b->edge[i]->position);
+    return c;
+}
+
+/* ---- records */
+
+static int along(const struct edge *e)
+{
+    const struct segment *s = &m.segment[e->position];
+    struct vertex leaf = as_vertex(s->entry[s->entries - 1].as);
+    return !compare_vertices(&e->end, &leaf);
+}
+
+static void put_record(uint8_t *r, const struct chain *c)
+{
+    unsigned i;
+    memset(r, 0, 16);
+    put(r, 2, c->cost);
+    r[2] = (uint8_t)c->edges;
+    for (i = 0; i < c->edges; i++) {
+        r[4 + 4 * i] = (uint8_t)c->edge[i]->position;
+        r[5 + 4 * i] = (uint8_t)c->edge[i]->shortcut;
+        r[6 + 4 * i] = (uint8_t)(c->edge[i]->peer + 1);
+        r[7 + 4 * i] = (uint8_t)along(c->edge[i]);
+    }
+}
+
+/* ---- working out a book once */
+
+static struct hop hop_at(const uint8_t *units, const uint8_t *interfaces, const uint8_t *mac)
+{
+    struct hop h;
+    h.units = *units;
+    h.ingress = (unsigned)number(interfaces, 2);
+    h.egress = (unsigned)number(interfaces + 2, 2);
+    h.mac = mac;
+    return h;
+}
+
+static void decode(void)
+{
+    unsigned cores = (unsigned)number(m.book, 2), p, i, j;
+    const uint8_t *at;
+    m.count = cores + (unsigned)number(m.book + 2, 2);
+    at = m.book + 8 + 10 * m.count;
+    for (p = 0; p < m.count; p++) {
+        struct segment *s = &m.segment[p];
+        const uint8_t *head = m.book + 8 + 10 * p;
+        uint8_t input[16 * 12];
+        s->core = p < cores;
+        s->timestamp = (uint32_t)number(head, 4);
+        s->id = (unsigned)number(head + 4, 2);
+        s->entries = (unsigned)number(head + 6, 2);
+        s->length = (size_t)number(head + 8, 2);
+        s->body = at;
+        for (i = 0; i < s->entries; i++) {
+            struct entry *e = &s->entry[i];
+            e->as = number(at, 8);
+            e->mtu = (uint32_t)number(at + 8, 4);
+            e->ingress_mtu = (unsigned)number(at + 12, 2);
+            e->hop = hop_at(at + 18, at + 14, at + 19);
+            e->peers = at[25];
+            memcpy(input + 12 * i, at, 8);
+            memcpy(input + 12 * i + 8, at + 14, 4);
+            at += 26;
+            for (j = 0; j < e->peers; j++, at += 23) {
+                e->peer[j].as = number(at, 8);
+                e->peer[j].interface = (unsigned)number(at + 8, 2);
+                e->peer[j].mtu = (unsigned)number(at + 10, 2);
+                e->peer[j].hop = hop_at(at + 12, at + 13, at + 17);
+            }
+        }
+        model_sha256(input, 12 * s->entries, s->fingerprint);
+    }
+}
+
+static int equal_segments(const struct segment *a, const struct segment *b)
+{
+    return a->core == b->core && a->timestamp == b->timestamp && a->id == b->id && a->length == b->length &&
+           !memcmp(a->body, b->body, a->length);
+}
+
+static int first_of_equals(unsigned p)
+{
+    unsigned q;
+    for (q = 0; q < p; q++)
+        if (equal_segments(&m.segment[q], &m.segment[p]))
+            return 0;
+    return 1;
+}
+
+/* The book is accepted. */
+static void work_out(uint64_t src, uint64_t dst, const uint8_t *book, size_t len)
+{
+    struct chain none = {0, 0, {NULL, NULL, NULL}};
+    struct vertex source = as_vertex(src);
+    unsigned p;
+    size_t i;
+    int same = m.known && m.len == len && !memcmp(m.book, book, len);
+    if (same && m.src == src && m.dst == dst)
+        return;
+    m.src = src;
+    m.dst = dst;
+    if (!same) {
+        memcpy(m.book, book, len);
+        m.len = len;
+        m.known = 1;
+        decode();
+        m.edges = 0;
+        for (p = 0; p < m.count; p++)
+            if (first_of_equals(p))
+                store_segment(p);
+        if (m.edges)
+            qsort(m.edge, m.edges, sizeof *m.edge, by_start);
+    }
+    m.chains = 0;
+    if (src != dst)
+        extend(&none, &source);
+    if (m.chains)
+        qsort(m.chain, m.chains, sizeof *m.chain, in_order);
+    m.record = resize(m.record, 16 * m.chains + 1);
+    for (i = 0; i < m.chains; i++)
+        put_record(m.record + 16 * i, &m.chain[i]);
+}
+
+const struct segment *model_segments(const uint8_t *book, size_t len, unsigned *count)
+{
+    work_out(m.src, m.dst, book, len);
+    *count = m.count;
+    return m.segment;
+}
+
+const uint8_t *model_records(uint64_t src, uint64_t dst, const uint8_t *book, size_t len, size_t *count)
+{
+    work_out(src, dst, book, len);
+    *count = m.chains;
+    return m.record;
+}
+
+/* ---- listing */
+
+uint32_t model_list(uint64_t src, uint64_t dst, const uint8_t *book, size_t book_len, uint8_t *out, size_t out_len)
+{
+    size_t slots = out_len / 16 < 4096 ? out_len / 16 : 4096;
+    unsigned refusal = model_verdict(book, book_len);
+    memset(out, 0, out_len);
+    if (refusal)
+        return 65536 + refusal;
+    work_out(src, dst, book, book_len);
+    if (m.chains > slots)
+        return 65536 + 8;
+    memcpy(out, m.record, 16 * m.chains);
+    return (uint32_t)m.chains;
+}
+
+/* ---- assembly */
+
+struct interface {
+    uint64_t as;
+    unsigned id;
+};
+
+struct path {
+    unsigned infos, hops, interfaces;
+    unsigned mtu;
+    uint64_t expiry;
+    uint8_t info[3 * 8];
+    struct hop hop[48];
+    struct interface interface[96];
+};
+
+static unsigned least(unsigned a, unsigned b)
+{
+    return a < b ? a : b;
+}
+
+static void add_edge(struct path *path, const struct edge *e)
+{
+    const struct segment *s = &m.segment[e->position];
+    unsigned n = s->entries, hops = 0, interfaces = 0, units = 255, i, k, id;
+    struct hop hop[16];
+    struct interface interface[32];
+    uint8_t *info = path->info + 8 * path->infos++;
+    uint64_t end;
+
+    for (i = n; i-- > e->shortcut;) {
+        const struct entry *a = &s->entry[i];
+        int at_shortcut = i == e->shortcut, peer = at_shortcut && e->peer >= 0;
+        struct hop h = peer ? a->peer[e->peer].hop : a->hop;
+        if (peer)
+            path->mtu = least(path->mtu, a->peer[e->peer].mtu);
+        else if (a->ingress_mtu && !(at_shortcut && e->shortcut > 0))
+            path->mtu = least(path->mtu, a->ingress_mtu);
+        path->mtu = least(path->mtu, a->mtu & 0xffff);
+        if (h.egress) {
+            interface[interfaces].as = a->as;
+            interface[interfaces++].id = h.egress;
+        }
+        if (h.ingress && (!at_shortcut || e->shortcut == 0 || peer)) {
+            interface[interfaces].as = a->as;
+            interface[interfaces++].id = h.ingress;
+        }
+        units = least(units, h.units);
+        hop[hops++] = h;
+    }
+    for (i = 0; i < hops; i++)
+        path->hop[path->hops++] = hop[along(e) ? hops - 1 - i : i];
+    for (i = 0; i < interfaces; i++)
+        path->interface[path->interfaces++] = interface[along(e) ? interfaces - 1 - i : i];
+
+    k = along(e) ? e->shortcut : n - 1;
+    if (e->peer >= 0 && e->shortcut == k)
+        k++;
+    id = s->id;
+    for (i = 0; i < k; i++)
+        id ^= (unsigned)number(s->entry[i].hop.mac, 2);
+    info[0] = (uint8_t)((along(e) ? 1 : 0) + (e->peer >= 0 ? 2 : 0));
+    info[1] = (uint8_t)hops;
+    put(info + 2, 2, id);
+    put(info + 4, 4, s->timestamp);
+
+    end = s->timestamp + ((uint64_t)units + 1) * 675 / 2;
+    if (end < path->expiry)
+        path->expiry = end;
+}
+
+static int loops(const struct path *p)
+{
+    unsigned i, j;
+    for (i = 0; i < p->interfaces; i++) {
+        unsigned shown = 0;
+        for (j = 0; j < p->interfaces; j++)
+            shown += p->interface[j].as == p->interface[i].as;
+        if (shown > 2)
+            return 1;
+    }
+    return 0;
+}
+
+static void put_path(uint8_t *out, const struct path *p)
+{
+    unsigned i;
+    out[0] = (uint8_t)p->infos;
+    out[1] = (uint8_t)p->hops;
+    out[2] = (uint8_t)p->interfaces;
+    put(out + 4, 2, p->mtu);
+    put(out + 6, 4, p->expiry);
+    put(out + 10, 8, p->interface[0].as);
+    put(out + 18, 8, p->interface[p->interfaces - 1].as);
+    out += 26;
+    memcpy(out, p->info, 8 * p->infos);
+    out += 8 * p->infos;
+    for (i = 0; i < p->hops; i++, out += 11) {
+        out[0] = (uint8_t)p->hop[i].units;
+        put(out + 1, 2, p->hop[i].ingress);
+        put(out + 3, 2, p->hop[i].egress);
+        memcpy(out + 5, p->hop[i].mac, 6);
+    }
+    for (i = 0; i < p->interfaces; i++, out += 8)
+        put(out, 8, p->interface[i].as);
+    for (i = 0; i < p->interfaces; i++, out += 2)
+        put(out, 2, p->interface[i].id);
+}
+
+uint32_t model_assemble(uint64_t src, uint64_t dst, const uint8_t *book, size_t book_len, const uint8_t *record,
+                        size_t record_len, uint8_t *out, size_t out_len)
+{
+    unsigned refusal = model_verdict(book, book_len), i;
+    struct path path;
+    size_t c;
+    memset(out, 0, out_len);
+    if (refusal)
+        return 65536 + refusal;
+    if (out_len < 1538)
+        return 65536 + 9;
+    work_out(src, dst, book, book_len);
+    for (c = 0; c < m.chains; c++)
+        if (record_len == 16 && !memcmp(m.record + 16 * c, record, 16))
+            break;
+    if (c == m.chains)
+        return 65536 + 10;
+    memset(&path, 0, sizeof path);
+    path.mtu = 65535;
+    path.expiry = 4294967295u;
+    for (i = 0; i < m.chain[c].edges; i++)
+        add_edge(&path, m.chain[c].edge[i]);
+    if (path.interfaces == 0)
+        return 2;
+    if (loops(&path))
+        return 1;
+    put_path(out, &path);
+    return 0;
+}

@@ -1,0 +1,70 @@
+/* scale: time against the size of a book, one size at a time. Each line is the least of many runs. */
+#include <inttypes.h>
+#include <stdio.h>
+
+#include "build.h"
+#include "combinator.h"
+#include "common.h"
+
+static uint8_t book[BUILD_ROOM], list[COMBINATOR_LIST_SIZE], path[COMBINATOR_PATH_SIZE];
+
+static void line(const char *what, unsigned size, size_t book_len)
+{
+    uint64_t begun = now_ns(), listing = UINT64_MAX, assembly = UINT64_MAX, start, listed, assembled;
+    uint32_t answer, i;
+    unsigned runs;
+    if (book_len > COMBINATOR_MAX_BOOK)
+        return;
+    for (runs = 0; runs < 5 || (runs < 2000 && now_ns() - begun < 20000000); runs++) {
+        start = now_ns();
+        answer = combinator_list(AS_SOURCE, AS_DESTINATION, book, book_len, list, sizeof list);
+        listed = now_ns();
+        if (answer != COMBINATOR_FULL && COMBINATOR_IS_REFUSAL(answer))
+            fail("%s %u: answer %" PRIu32, what, size, answer);
+        for (i = 0; !COMBINATOR_IS_REFUSAL(answer) && i < answer; i++)
+            combinator_assemble(AS_SOURCE, AS_DESTINATION, book, book_len, list + COMBINATOR_RECORD_SIZE * i, COMBINATOR_RECORD_SIZE, path,
+                                sizeof path);
+        assembled = now_ns();
+        if (listed - start < listing)
+            listing = listed - start;
+        if (assembled - listed < assembly)
+            assembly = assembled - listed;
+    }
+    printf("%-10s %5u %9zu ", what, size, book_len);
+    if (answer == COMBINATOR_FULL)
+        printf("%9s %12.2f %12s\n", "full", (double)listing / 1000, "-");
+    else
+        printf("%9" PRIu32 " %12.2f %12.2f\n", answer, (double)listing / 1000, answer ? (double)assembly / 1000 / answer : 0.0);
+}
+
+int scale_mode(int args, char **arg)
+{
+    unsigned n, e, ups, cores, downs;
+    (void)arg;
+    if (args)
+        usage("driver scale");
+    printf("Listing into %d bytes, not cleared before; assembly of every solution into %d.\n", COMBINATOR_LIST_SIZE, COMBINATOR_PATH_SIZE);
+    printf("%-10s %5s %9s %9s %12s %12s\n", "growing", "size", "bytes", "solutions", "listing us", "assembly us");
+    /* Two of the segments make one chain, the others lead elsewhere. */
+    for (n = 1; n <= 64; n = n < 4 ? n + 1 : n < 16 ? n + 4 : n + 16)
+        line("segments", n, build_few(book, n, 4, 0));
+    for (n = 1; n <= 16; n++)
+        line("entries", n, build_few(book, 8, n, 0));
+    for (n = 0; n <= 4; n++)
+        line("peers", n, build_few(book, 8, 8, n));
+    /* ups × cores × downs chains, fingerprints all different, then all equal. */
+    line("chains", 0, build_chains(book, 1, 0, 1, 0));
+    for (n = 1, e = 0; n <= 4096; n *= 2, e++) {
+        ups = 1u << (e + 2) / 3, cores = 1u << (e + 1) / 3, downs = 1u << e / 3;
+        line("chains", n, build_chains(book, ups, cores, downs, 0));
+    }
+    for (n = 1, e = 0; n <= 4096; n *= 2, e++) {
+        ups = 1u << (e + 2) / 3, cores = 1u << (e + 1) / 3, downs = 1u << e / 3;
+        line("ties", n, build_chains(book, ups, cores, downs, 1));
+    }
+    line("full", 4352, build_chains(book, 17, 16, 16, 1));
+    /* Every AS and every link shared. */
+    for (n = 1; n <= 16; n++)
+        line("shared", n, build_worst(book, n, 16, 4));
+    return 0;
+}

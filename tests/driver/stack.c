@@ -1,0 +1,115 @@
+/* stack [FILE...]: the most stack that one call took, on the driver's own books and on those of batches. A thread runs
+ * on a painted stack; what a call has changed below its caller is counted. */
+#include <inttypes.h>
+#include <pthread.h>
+#include <stdio.h>
+#include <string.h>
+#include <sys/mman.h>
+
+#include "build.h"
+#include "combinator.h"
+#include "common.h"
+
+#define STACK ((size_t)512 << 10)
+#define PAINT 0x5a
+/* Left unpainted below the calling frame: less than this is not told apart. */
+#define MARGIN 1024
+
+static uint8_t *stack, book[BUILD_ROOM], list[COMBINATOR_LIST_SIZE], path[COMBINATOR_PATH_SIZE];
+static size_t most_list, most_assemble;
+
+/* One call, and what it needed. */
+struct call {
+    const struct input *c;
+    const uint8_t *record; /* NULL: listing */
+    uint32_t answer;
+    size_t needed;
+};
+
+/* The stack grows down: the lowest byte that is no longer as painted. */
+static uint8_t *low_mark(void)
+{
+    uint8_t *p = stack;
+    while (*p == PAINT)
+        p++;
+    return p;
+}
+
+static void *run(void *given)
+{
+    struct call *k = given;
+    volatile uint8_t here = 0;
+    memset(stack, PAINT, (size_t)((uint8_t *)&here - stack) - MARGIN);
+    if (k->record)
+        k->answer = combinator_assemble(k->c->src, k->c->dst, k->c->book, k->c->book_len, k->record, COMBINATOR_RECORD_SIZE, path, sizeof path);
+    else
+        k->answer = combinator_list(k->c->src, k->c->dst, k->c->book, k->c->book_len, list, sizeof list);
+    k->needed = (size_t)((uint8_t *)&here - low_mark());
+    return NULL;
+}
+
+static void call(struct call *k)
+{
+    pthread_attr_t attr;
+    pthread_t thread;
+    if (pthread_attr_init(&attr) || pthread_attr_setstack(&attr, stack, STACK) || pthread_create(&thread, &attr, run, k) ||
+        pthread_join(thread, NULL))
+        fail("a thread on its own stack");
+    pthread_attr_destroy(&attr);
+}
+
+static void measure(const struct input *c)
+{
+    struct call k;
+    size_t n, i, step;
+    memset(&k, 0, sizeof k);
+    k.c = c;
+    call(&k);
+    if (k.needed > most_list)
+        most_list = k.needed;
+    if (COMBINATOR_IS_REFUSAL(k.answer))
+        return;
+    n = k.answer;
+    step = n / 16 + 1;
+    for (i = 0; i < n; i += step) {
+        k.record = list + COMBINATOR_RECORD_SIZE * i;
+        call(&k);
+        if (k.needed > most_assemble)
+            most_assemble = k.needed;
+    }
+}
+
+static void measure_book(size_t len)
+{
+    struct input c;
+    c.src = AS_SOURCE;
+    c.dst = AS_DESTINATION;
+    c.book = book;
+    c.book_len = len;
+    measure(&c);
+}
+
+int stack_mode(int args, char **arg)
+{
+    int i;
+    stack = mmap(NULL, STACK, PROT_READ | PROT_WRITE, MAP_PRIVATE | MAP_ANONYMOUS, -1, 0);
+    if (stack == MAP_FAILED)
+        fail("mmap");
+    measure_book(build_worked(book));
+    measure_book(build_few(book, 32, 16, 4));
+    measure_book(build_chains(book, 16, 16, 16, 0));
+    measure_book(build_chains(book, 16, 16, 16, 1));
+    measure_book(build_chains(book, 17, 16, 16, 1));
+    measure_book(build_worst(book, 7, 16, 4));
+    measure_book(build_worst(book, 16, 16, 4));
+    for (i = 0; i < args; i++) {
+        size_t len, at = 0;
+        uint8_t *batch = read_file(arg[i], &len);
+        struct input c;
+        while (next_case(batch, len, &at, &c))
+            if (c.book)
+                measure(&c);
+    }
+    printf("stack of one call: listing %zu bytes, assembly %zu bytes (below %d is not told apart)\n", most_list, most_assemble, MARGIN);
+    return 0;
+}
