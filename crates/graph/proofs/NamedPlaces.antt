@@ -3,7 +3,7 @@
 use Prim.Native.Nat.{ℕ, _+_, _-_, _≤_, _<_}
 use native.Mathlib.Omega.{arith}
 use mathlib.Core.Path.{_≡_, refl, sym, ap, ap₂, _∙_}
-use mathlib.Core.Bool.{true, false}
+use mathlib.Core.Bool.{true, false, false≢true}
 use mathlib.Core.List.{List, [], _++_, append-nil, List·Memᴰ as Mem}
 use Rattle.spec.specs.declared.Edge.{Edge}
 use Rattle.spec.specs.declared.SolutionEdge.{SolutionEdge}
@@ -16,7 +16,7 @@ use Rattle.graph.specs.Identity.{hasIdentity, identified, identifiedIn}
 use Rattle.graph.specs.Search.{overFirsts}
 use Rattle.graph.proofs.IdentityLaws.{other-position}
 use Rattle.graph.proofs.SearchLists.{filter-append, filter-same, through}
-use Rattle.graph.proofs.SearchLaws.{over-firsts, over-turn, over-pass, over-split, over-none}
+use Rattle.graph.proofs.SearchLaws.{over-firsts, over-turn, over-skip, over-split, over-none}
 
 module _ (b : List ℕ) (id : SolutionEdge) where
   abbrev those : Segment → List Edge
@@ -67,4 +67,4 @@ module _ (b : List ℕ) (id : SolutionEdge) where
 
     -- an equal segment stands before it
     pub identified-repeat : isFirst (segments b) (segmentAt b (id .position)) ≡ false → identifiedIn b id ≡ []
-    identified-repeat q = from-position ∙ over-pass those b p (segmentCount b) h q ∙ after-position
+    identified-repeat q = from-position ∙ over-skip those b p (segmentCount b) h (λ t. absurd (false≢true (sym q ∙ t))) ∙ after-position
