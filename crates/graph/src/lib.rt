@@ -57,11 +57,11 @@ fn list_accepted(src: IsdAsn, dst: IsdAsn, book: &[u8], out: &mut [u8]) -> ListA
     let table = segment::entry_offsets(book);
     let n = search::search(book, &table, src, dst, out, room);
     if room < n {
-        octets::zero(out, 0);
+        output::zero(out, 0);
         return ListAnswer::Refused(Refusal::Full);
     }
     order::sort(book, out, n);
-    octets::zero(out, Solution::SIZE * n);
+    output::zero(out, Solution::SIZE * n);
     ListAnswer::Count(n)
 }
 
@@ -72,7 +72,7 @@ pub fn list(src: IsdAsn, dst: IsdAsn, book: &[u8], out: &mut [u8]) -> ListAnswer
 {
     let v = segment::verdict(book);
     if let Verdict::Refused(r) = v {
-        octets::zero(out, 0);
+        output::zero(out, 0);
         return ListAnswer::Refused(r);
     }
     list_accepted(src, dst, book, out)

@@ -47,11 +47,11 @@ pub(crate) fn build(
     let ases = front.ases;
     let count = (front.ids - ases) / 8;
     if frequent::is_frequent(out, ases, count) {
-        octets::zero(out, 0);
+        output::zero(out, 0);
         return PathAnswer::Loop;
     }
     if count == 0 {
-        octets::zero(out, 0);
+        output::zero(out, 0);
         return PathAnswer::Bare;
     }
     record::put_path(book, table, chain, out, front);

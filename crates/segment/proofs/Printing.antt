@@ -17,8 +17,8 @@ use Rattle.spec.specs.Book.{Entry, segmentCount, entryCountAt, bodyOffset, entr
 use Rattle.spec.specs.Order.{entryInput, fingerprintInput, fingerprint}
 use Rattle.spec.proofs.Lists.{flatMap-append}
 use Rattle.spec.proofs.BookLaws.{AcceptedBook, entry-count}
-use Rattle.octets.specs.Write.{written}
-use Rattle.octets.proofs.Writing.{written-pair, written-within, octets2-length, octets8-length}
+use Rattle.output.specs.Write.{written}
+use Rattle.output.proofs.Writing.{written-pair, written-within, octets2-length, octets8-length}
 use Rattle.sha256.specs.Message.{sha256}
 use Rattle.segment.specs.Print.{inputSize, inputs}
 use Rattle.segment.proofs.Fitting.{offset-next}

@@ -5,7 +5,7 @@ ghost use lib.ListN.{take};
 ghost use Rattle.spec.specs.Limits.{maxEntries};
 ghost use Rattle.spec.specs.Book.{segmentAt, entryAt};
 ghost use Rattle.spec.specs.Order.{entryInput, fingerprintInput};
-ghost use Rattle.octets.specs.Write.{written};
+ghost use Rattle.output.specs.Write.{written};
 ghost use Rattle.sha256.specs.Message.{sha256};
 ghost use Rattle.segment.specs.Print.{inputSize, inputs};
 use crate::entries;
@@ -24,9 +24,9 @@ fn put_entry(book: &[u8], message: &mut [u8], place: usize, at: usize)
     requires { ⌜ place < 2 ^ 32 ⌝ }
     ensures { λ r. ⌜ now (message .exit) ≡ written (now (message .entry)) place (entryInput (entryAt (now (book .entry)) at)) ⌝ }
 {
-    octets::put64(message, place, octets::be64(book, at));
-    octets::put16(message, place + 8, octets::be16_past(book, at, 14));
-    octets::put16(message, place + 10, octets::be16_past(book, at, 16));
+    output::put64(message, place, octets::be64(book, at));
+    output::put16(message, place + 8, octets::be16_past(book, at, 14));
+    output::put16(message, place + 10, octets::be16_past(book, at, 16));
 }
 
 // What `count` entries from `start` on give, and zeros.

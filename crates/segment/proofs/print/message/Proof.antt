@@ -8,7 +8,7 @@ use lib.ListN.{length, take}
 use Rattle.spec.specs.Limits.{maxEntries}
 use Rattle.spec.specs.Book.{entryAt, entriesAt, entryOffset}
 use Rattle.spec.specs.Order.{entryInput}
-use Rattle.octets.proofs.Writing.{written-length}
+use Rattle.output.proofs.Writing.{written-length}
 use Rattle.segment.specs.Print.{inputSize, inputs}
 use Rattle.segment.proofs.Fitting.{offset-more}
 use Rattle.segment.proofs.Printing.{written-more}

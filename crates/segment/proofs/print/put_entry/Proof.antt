@@ -3,7 +3,7 @@
 use mathlib.Core.Path.{ap, ap₂, _∙_}
 use Prim.Native.Nat.{_+_}
 use Rattle.spec.specs.Octets.{octets2, octets8}
-use Rattle.octets.specs.Write.{written}
+use Rattle.output.specs.Write.{written}
 use Rattle.segment.proofs.Printing.{entry-written}
 use borrow.Author.Needs.{needs}
 use Rattle.segment.proofs.print.put_entry.Statement.{statement}

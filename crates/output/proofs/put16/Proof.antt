@@ -1,11 +1,11 @@
--- `octets::put16` meets its contract.
+-- `output::put16` meets its contract.
 -- Assumes nothing.
 use native.Mathlib.Omega.{arith}
 use mathlib.Core.Path.{_∙_}
-use Rattle.octets.proofs.Writing.{octets2-first}
+use Rattle.output.proofs.Writing.{octets2-first}
 use borrow.Author.Needs.{needs}
-use Rattle.octets.proofs.put16.Statement.{statement}
-use Rattle.octets.proofs.put16.Tie as tie
+use Rattle.output.proofs.put16.Statement.{statement}
+use Rattle.output.proofs.put16.Tie as tie
 
 store16-requires : tie.Need-store16-requires
 store16-requires c κs = omega (arith, c .before .before .inside .ensures .0 (c .before .if1 .taken))

@@ -1,11 +1,11 @@
--- `octets::put_byte` meets its contract.
+-- `output::put_byte` meets its contract.
 -- Assumes nothing.
 use mathlib.Core.Path.{sym}
 use native.Mathlib.Omega.{arith}
-use Rattle.octets.proofs.Writing.{written-one, written-past}
+use Rattle.output.proofs.Writing.{written-one, written-past}
 use borrow.Author.Needs.{needs}
-use Rattle.octets.proofs.put_byte.Statement.{statement}
-use Rattle.octets.proofs.put_byte.Tie as tie
+use Rattle.output.proofs.put_byte.Statement.{statement}
+use Rattle.output.proofs.put_byte.Tie as tie
 
 returns : tie.Need-returns
 returns c = sym (written-one _ _ _)

@@ -10,7 +10,7 @@ use mathlib.Core.List.{List, [], _∷_, _++_, append-nil}
 use lib.ListN.{length, take, drop, getD, set, replicate, length-append, length-take, length-drop, length-replicate, take-append-drop, replicate-append-replicate, drop-of-length-le}
 use lib.Seq.{sets, length-sets, set-out, take-all, take-suc, take-take, take-length, length-take-le, take-at, drop-append-add, getD-drop}
 use Rattle.spec.specs.Octets.{octets2, octets4, octets8}
-use Rattle.octets.specs.Write.{written, zeroed}
+use Rattle.output.specs.Write.{written, zeroed}
 
 -- ---- a write is a run of stores
 

@@ -1,11 +1,11 @@
--- `octets::put64` meets its contract.
+-- `output::put64` meets its contract.
 -- Assumes nothing.
 use native.Mathlib.Omega.{arith}
 use mathlib.Core.Path.{sym}
-use Rattle.octets.proofs.Writing.{octets8-halves, written-past}
+use Rattle.output.proofs.Writing.{octets8-halves, written-past}
 use borrow.Author.Needs.{needs}
-use Rattle.octets.proofs.put64.Statement.{statement}
-use Rattle.octets.proofs.put64.Tie as tie
+use Rattle.output.proofs.put64.Statement.{statement}
+use Rattle.output.proofs.put64.Tie as tie
 
 store64-requires : tie.Need-store64-requires
 store64-requires c κs = omega (arith, c .before .before .inside .ensures .0 (c .before .if1 .taken))

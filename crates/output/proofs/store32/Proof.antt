@@ -1,9 +1,9 @@
--- `octets::store32` meets its contract.
+-- `output::store32` meets its contract.
 -- Assumes nothing.
-use Rattle.octets.proofs.Writing.{octets4-halves}
+use Rattle.output.proofs.Writing.{octets4-halves}
 use borrow.Author.Needs.{needs}
-use Rattle.octets.proofs.store32.Statement.{statement}
-use Rattle.octets.proofs.store32.Tie as tie
+use Rattle.output.proofs.store32.Statement.{statement}
+use Rattle.output.proofs.store32.Tie as tie
 
 returns : tie.Need-returns
 returns c = rw (c .before .before .store162 .ensures, c .before .before .before .before .before .before .store16 .ensures) (octets4-halves _ _ _)

@@ -1,11 +1,11 @@
--- `octets::put32` meets its contract.
+-- `output::put32` meets its contract.
 -- Assumes nothing.
 use native.Mathlib.Omega.{arith}
 use mathlib.Core.Path.{sym}
-use Rattle.octets.proofs.Writing.{octets4-halves, written-past}
+use Rattle.output.proofs.Writing.{octets4-halves, written-past}
 use borrow.Author.Needs.{needs}
-use Rattle.octets.proofs.put32.Statement.{statement}
-use Rattle.octets.proofs.put32.Tie as tie
+use Rattle.output.proofs.put32.Statement.{statement}
+use Rattle.output.proofs.put32.Tie as tie
 
 store32-requires : tie.Need-store32-requires
 store32-requires c κs = omega (arith, c .before .before .inside .ensures .0 (c .before .if1 .taken))

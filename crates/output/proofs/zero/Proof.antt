@@ -1,12 +1,12 @@
--- `octets::zero` meets its contract. The invariant of its loop: the zeros up to i are written.
+-- `output::zero` meets its contract. The invariant of its loop: the zeros up to i are written.
 -- Assumes nothing.
 use mathlib.Core.Path.{_≡_, refl, _∙_}
 use Prim.Native.Nat.{_-_, _≤_}
 use native.Mathlib.Omega.{arith}
 use lib.ListN.{length, length-set}
-use Rattle.octets.proofs.Writing.{zeroedTo, zeros-none, zeros-more, zeros-all}
-use Rattle.octets.proofs.zero.Statement.{statement}
-use Rattle.octets.proofs.zero.Tie as tie
+use Rattle.output.proofs.Writing.{zeroedTo, zeros-none, zeros-more, zeros-all}
+use Rattle.output.proofs.zero.Statement.{statement}
+use Rattle.output.proofs.zero.Tie as tie
 
 abbrev Inv-loop : tie.InvT-loop
 Inv-loop out₀ from i₀ out i = (out ≡ zeroedTo out₀ from i) × (from ≤ i) × (i - from ≤ length out₀ - from) × (length out ≡ length out₀)

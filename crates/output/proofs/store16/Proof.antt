@@ -1,11 +1,11 @@
--- `octets::store16` meets its contract.
+-- `output::store16` meets its contract.
 -- Assumes nothing.
 use native.Mathlib.Omega.{arith}
 use lib.ListN.{length-set}
-use Rattle.octets.proofs.Writing.{octets2-stored}
+use Rattle.output.proofs.Writing.{octets2-stored}
 use borrow.Author.Needs.{needs}
-use Rattle.octets.proofs.store16.Statement.{statement}
-use Rattle.octets.proofs.store16.Tie as tie
+use Rattle.output.proofs.store16.Statement.{statement}
+use Rattle.output.proofs.store16.Tie as tie
 
 slice-write-out-2 : tie.Need-slice-write-out-2
 slice-write-out-2 c = simp length-set (omega arith)

@@ -1,13 +1,13 @@
--- `octets::copy` meets its contract. The invariant of its loop: the first j bytes are copied.
+-- `output::copy` meets its contract. The invariant of its loop: the first j bytes are copied.
 -- Assumes nothing.
 use mathlib.Core.Path.{_≡_, refl, _∙_}
 use Prim.Native.Nat.{_-_, _≤_}
 use native.Mathlib.Omega.{arith}
 use lib.ListN.{length, length-set}
 use borrow.Author.Needs.{needs}
-use Rattle.octets.proofs.Writing.{copied, copied-none, copied-more, copied-all}
-use Rattle.octets.proofs.copy.Statement.{statement}
-use Rattle.octets.proofs.copy.Tie as tie
+use Rattle.output.proofs.Writing.{copied, copied-none, copied-more, copied-all}
+use Rattle.output.proofs.copy.Statement.{statement}
+use Rattle.output.proofs.copy.Tie as tie
 
 abbrev Inv-loop : tie.InvT-loop
 Inv-loop src from n dst₀ at k j₀ dst j = (dst ≡ copied dst₀ at src from j) × (j ≤ k) × (length dst ≡ length dst₀)

@@ -1,9 +1,9 @@
--- `octets::store64` meets its contract.
+-- `output::store64` meets its contract.
 -- Assumes nothing.
-use Rattle.octets.proofs.Writing.{octets8-halves}
+use Rattle.output.proofs.Writing.{octets8-halves}
 use borrow.Author.Needs.{needs}
-use Rattle.octets.proofs.store64.Statement.{statement}
-use Rattle.octets.proofs.store64.Tie as tie
+use Rattle.output.proofs.store64.Statement.{statement}
+use Rattle.output.proofs.store64.Tie as tie
 
 returns : tie.Need-returns
 returns c = rw (c .before .before .store322 .ensures, c .before .before .before .before .before .before .store32 .ensures) (octets8-halves _ _ _)
