@@ -395,7 +395,7 @@ fn first_flags(book: &[u8], count: u8) -> [bool; Limits::SEGMENTS]
     let mut flags = [false; Limits::SEGMENTS];
     let mut k: u8 = 0;
     while k < count {
-        flags[k as usize] = segment::is_first(book, k);
+        flags[k as usize] = equal::is_first(book, k);
         k += 1;
     }
     flags
