@@ -31,8 +31,8 @@ use Rattle.spec.proofs.LengthLaws.{solution-length, slots-fit}
 use Rattle.spec.proofs.ChainLaws.{allowed-length}
 use Rattle.spec.proofs.OnceLaws.{solutions-sound}
 use Rattle.sha256.specs.Message.{sha256}
-use Rattle.octets.specs.Write.{zeroed}
-use Rattle.octets.proofs.Writing.{zeroed-all}
+use Rattle.output.specs.Write.{zeroed}
+use Rattle.output.proofs.Writing.{zeroed-all}
 use Rattle.order.specs.Records.{records, sortFirst}
 use Rattle.order.specs.Order.{leqSlots}
 use Rattle.order.proofs.Chains.{sort-chains, records-chains}

@@ -25,9 +25,9 @@ use Rattle.spec.proofs.Membership.{not-both}
 use Rattle.spec.proofs.Vertices.{sameAs-eq, sameVertex-eq, eq-sameVertex}
 use Rattle.spec.proofs.OnceLaws.{any-mem, segment-position}
 use Rattle.spec.proofs.BookLaws.{AcceptedBook, accepted, mem-range, entry-count, segment-length}
-use Rattle.segment.specs.Offsets.{offsetTable}
+use Rattle.book.specs.Offsets.{offsetTable}
 use Rattle.segment.proofs.Fitting.{position-small}
-use Rattle.segment.proofs.Tables.{table-as, table-peers, table-peer}
+use Rattle.book.proofs.Tables.{table-as, table-peers, table-peer}
 use Rattle.graph.specs.declared.edges.Link.{Link}
 use Rattle.spec.specs.Chains.{leaves}
 use Rattle.graph.specs.Lookup.{hasEnds, between, leavingOf}

@@ -35,7 +35,7 @@ use Rattle.graph.specs.Recorded.{isRecordOf, recordedChains, Recorded, r
 use Rattle.graph.specs.Named.{ahead, withIdentities, leadsBy, isWay, passing, chainsNamed}
 use Rattle.graph.proofs.PushedRecords.{record-length, record-of}
 use Rattle.graph.proofs.SearchLists.{filter-same}
-use Rattle.segment.specs.Offsets.{offsetTable}
+use Rattle.book.specs.Offsets.{offsetTable}
 use Rattle.graph.proofs.RecordedLaws.{recorded-accepted, recorded-refused}
 use Rattle.graph.proofs.NamedLaws.{with-sound, named-recorded}
 

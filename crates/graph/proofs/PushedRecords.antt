@@ -15,8 +15,8 @@ use Rattle.spec.specs.Basics.{range, padded, sum}
 use Rattle.spec.specs.Octets.{octets2}
 use Rattle.spec.specs.Order.{cost, weightOf, solutionEdge}
 use Rattle.spec.specs.Records.{bit, edgeOctets, edgeAt, noEdge, solutionOf, solutionOctets}
-use Rattle.octets.specs.Write.{written}
-use Rattle.octets.proofs.Writing.{written-within}
+use Rattle.output.specs.Write.{written}
+use Rattle.output.proofs.Writing.{written-within}
 use Rattle.graph.specs.Pushed.{Slots, putAt, edgeBytes, recordOctets, pushRecord, pushed, Pushes}
 use Rattle.graph.proofs.PushedLaws.{record-room, record-full, pushed-one, pushed-most}
 

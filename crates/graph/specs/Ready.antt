@@ -5,7 +5,7 @@ use mathlib.Core.Path.{_≡_}
 use mathlib.Core.List.{List}
 use Rattle.spec.specs.declared.Verdict.the-variants.{Accepted}
 use Rattle.spec.specs.Book.{segmentAt, segmentCount, verdict}
-use Rattle.segment.specs.Offsets.{offsetTable}
+use Rattle.book.specs.Offsets.{offsetTable}
 use Rattle.graph.specs.Leaving.{entryCount}
 
 -- an accepted book, and the table of its entries' offsets

@@ -7,7 +7,7 @@ ghost use Rattle.spec.specs.Basics.{sameList};
 ghost use Rattle.spec.specs.Book.{verdict};
 ghost use Rattle.spec.specs.Edges.{sameVertex};
 ghost use Rattle.spec.specs.Records.{recordEdge};
-ghost use Rattle.segment.specs.Offsets.{offsetTable};
+ghost use Rattle.book.specs.Offsets.{offsetTable};
 ghost use Rattle.graph.specs.Lookup.{foundEdges};
 ghost use Rattle.graph.specs.Identity.{identifiedIn};
 ghost use Rattle.graph.specs.Pushed.{recordOctets};
@@ -18,7 +18,7 @@ use crate::Chain;
 use crate::Found;
 use crate::edges;
 use crate::slots;
-use segment::PLACES;
+use book::PLACES;
 use spec::Edge;
 use spec::IsdAsn;
 use spec::Solution;
@@ -74,7 +74,7 @@ fn edge_of(book: &[u8], table: &[u16; PLACES], id: SolutionEdge) -> Found
     if sizes.cores + sizes.others <= (id.position as u16) {
         return Found::Nothing;
     }
-    if !segment::is_first(book, id.position) {
+    if !equal::is_first(book, id.position) {
         return Found::Nothing;
     }
     edges::stored_edge(book, table, id)
@@ -347,11 +347,11 @@ pub fn chain_of(
 ) -> Chain
     ensures { λ r. ⌜ (saidBy r ≡ recorded (now (book .entry)) src dst (now (given .entry))) × (now (table .exit) ≡ tableOn (verdict (now (book .entry))) (offsetTable (now (book .entry))) (now (table .entry))) ⌝ }
 {
-    let v = segment::verdict(book);
+    let v = book::verdict(book);
     if let Verdict::Refused(r) = v {
         return Chain::Refused(r);
     }
-    let made = segment::entry_offsets(book);
+    let made = book::entry_offsets(book);
     *table = made;
     chain_in(src, dst, book, &made, given)
 }

@@ -56,14 +56,14 @@ fn list_accepted(src: IsdAsn, dst: IsdAsn, book: &[u8], out: &mut [u8]) -> ListA
     ensures { λ r. ⌜ (r, now (out .exit)) ≡ listing sha256 (now (book .entry)) src dst (length (now (out .entry))) ⌝ }
 {
     let room = slots_of(out.len());
-    let table = segment::entry_offsets(book);
+    let table = book::entry_offsets(book);
     let n = search::search(book, &table, src, dst, out, room);
     if room < n {
-        octets::zero(out, 0);
+        output::zero(out, 0);
         return ListAnswer::Refused(Refusal::Full);
     }
     order::sort(book, out, n);
-    octets::zero(out, Solution::SIZE * n);
+    output::zero(out, Solution::SIZE * n);
     ListAnswer::Count(n)
 }
 
@@ -72,9 +72,9 @@ fn list_accepted(src: IsdAsn, dst: IsdAsn, book: &[u8], out: &mut [u8]) -> ListA
 pub fn list(src: IsdAsn, dst: IsdAsn, book: &[u8], out: &mut [u8]) -> ListAnswer
     ensures { λ r. ⌜ (r, now (out .exit)) ≡ listing sha256 (now (book .entry)) src dst (length (now (out .entry))) ⌝ }
 {
-    let v = segment::verdict(book);
+    let v = book::verdict(book);
     if let Verdict::Refused(r) = v {
-        octets::zero(out, 0);
+        output::zero(out, 0);
         return ListAnswer::Refused(r);
     }
     list_accepted(src, dst, book, out)

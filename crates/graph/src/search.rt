@@ -392,7 +392,7 @@ fn class_of(book: &[u8], table: &[u16; PLACES], k: u8, dst: IsdAsn) -> u8
     requires { ⌜ k < segmentCount (now book) ⌝ }
     ensures { λ r. ⌜ r ≡ classOf (now (book .entry)) dst k ⌝ }
 {
-    if !segment::is_first(book, k) {
+    if !equal::is_first(book, k) {
         return 0;
     }
     if edges::has_as(book, table, k, dst) {

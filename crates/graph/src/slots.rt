@@ -106,7 +106,7 @@ fn push(out: &mut [u8], slots: usize, n: usize, s: Solution) -> usize
 {
     if n < slots {
         let r = octets_of(s);
-        octets::copy(&r, 0, Solution::SIZE, out, Solution::SIZE * n);
+        output::copy(&r, 0, Solution::SIZE, out, Solution::SIZE * n);
         return n + 1;
     }
     slots + 1

@@ -64,9 +64,9 @@ fn show(label: &[u8], src: u64, dst: u64, book: &[u8], out: &mut [u8]) {
 // ---- books of segments of two entries
 
 fn sizes(book: &mut [u8], cores: u16, others: u16, bodies: u32) {
-    octets::put16(book, 0, cores);
-    octets::put16(book, 2, others);
-    octets::put32(book, 4, bodies);
+    output::put16(book, 0, cores);
+    output::put16(book, 2, others);
+    output::put32(book, 4, bodies);
 }
 
 // Segment k of `count`, from one AS to another. Its id is its position, so that no two are equal.
@@ -74,15 +74,15 @@ fn segment(book: &mut [u8], count: usize, k: usize, first: u64, last: u64)
     requires { ⌜ (count ≤ 64) × (k < 64) ⌝ }
 {
     let head = 8 + 10 * k;
-    octets::put32(book, head, 1);
-    octets::put16(book, head + 4, k as u16);
-    octets::put16(book, head + 6, 2);
-    octets::put16(book, head + 8, 52);
+    output::put32(book, head, 1);
+    output::put16(book, head + 4, k as u16);
+    output::put16(book, head + 6, 2);
+    output::put16(book, head + 8, 52);
     let at = 8 + 10 * count + 52 * k;
-    octets::put64(book, at, first);
-    octets::put16(book, at + 16, 1);
-    octets::put64(book, at + 26, last);
-    octets::put16(book, at + 40, 2);
+    output::put64(book, at, first);
+    output::put16(book, at + 16, 1);
+    output::put64(book, at + 26, last);
+    output::put16(book, at + 40, 2);
 }
 
 // 16 cores from X to Y, 16 segments from X to A, 16 from Y to B: 16 x 16 x 16 chains from A to B.
@@ -143,13 +143,13 @@ fn slots(out: &mut [u8]) {
 fn longest(out: &mut [u8]) {
     let mut book = [0u8; 1906];
     sizes(&mut book, 0, 1, 1888);
-    octets::put16(&mut book, 14, 16);
-    octets::put16(&mut book, 16, 1888);
+    output::put16(&mut book, 14, 16);
+    output::put16(&mut book, 16, 1888);
     let mut i: usize = 0;
     while i < 16 {
         let at = 18 + 118 * i;
-        octets::put64(&mut book, at, X + i as u64);
-        octets::put_byte(&mut book, at + 25, 4);
+        output::put64(&mut book, at, X + i as u64);
+        output::put_byte(&mut book, at + 25, 4);
         i += 1;
     }
     show(b"16 entries of 4 peers", X + 15, X, &book, out);

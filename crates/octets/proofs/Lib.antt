@@ -1,2 +1,1 @@
--- Laws that belong to no one function.
-pub mod Writing
+pub mod Halves

@@ -25,11 +25,10 @@ fn show(b: [u8; 9]) {
     number(wide(b[8]), 2, b"\n");
 }
 
-fn numbers(a: u8, b: u16, c: u32, d: u64) {
+fn numbers(a: u8, b: u16, c: u32, end: &[u8]) {
     number(a as u64, 2, b" ");
     number(b as u64, 4, b" ");
-    number(c as u64, 8, b" ");
-    number(d, 16, b"\n");
+    number(c as u64, 8, end);
 }
 
 fn read(s: &[u8], at: usize) {
@@ -37,8 +36,9 @@ fn read(s: &[u8], at: usize) {
         octets::byte(s, at),
         octets::be16(s, at),
         octets::be32(s, at),
-        octets::be64(s, at),
+        b" ",
     );
+    number(octets::be64(s, at), 16, b"\n");
 }
 
 fn read_past(s: &[u8], at: usize, i: u8) {
@@ -46,34 +46,34 @@ fn read_past(s: &[u8], at: usize, i: u8) {
         octets::byte_past(s, at, i),
         octets::be16_past(s, at, i),
         octets::be32_past(s, at, i),
-        octets::be64_past(s, at, i),
+        b"\n",
     );
 }
 
 fn write(at: usize) {
     let mut a = [0xeeu8; 9];
-    octets::put_byte(&mut a, at, 0x12);
+    output::put_byte(&mut a, at, 0x12);
     show(a);
     let mut b = [0xeeu8; 9];
-    octets::put16(&mut b, at, 0x1234);
+    output::put16(&mut b, at, 0x1234);
     show(b);
     let mut c = [0xeeu8; 9];
-    octets::put32(&mut c, at, 0x12345678);
+    output::put32(&mut c, at, 0x12345678);
     show(c);
     let mut d = [0xeeu8; 9];
-    octets::put64(&mut d, at, 0x123456789abcdef0);
+    output::put64(&mut d, at, 0x123456789abcdef0);
     show(d);
 }
 
 fn zero(from: usize) {
     let mut b = SOURCE;
-    octets::zero(&mut b, from);
+    output::zero(&mut b, from);
     show(b);
 }
 
 fn copy(from: usize, n: usize, at: usize) {
     let mut b = [0xeeu8; 9];
-    octets::copy(&SOURCE, from, n, &mut b, at);
+    output::copy(&SOURCE, from, n, &mut b, at);
     show(b);
 }
 

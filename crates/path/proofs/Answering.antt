@@ -21,9 +21,9 @@ use Rattle.spec.specs.Router.{isAlong}
 use Rattle.spec.specs.Answers.{Assembled, assembly, pathAnswer, refusedPath}
 use Rattle.spec.proofs.BookLaws.{stored}
 use Rattle.spec.proofs.AnswerLaws.{assembly-refused, assembly-small}
-use Rattle.octets.specs.Write.{zeroed}
-use Rattle.octets.proofs.Writing.{zeroed-all}
-use Rattle.segment.specs.Offsets.{offsetTable}
+use Rattle.output.specs.Write.{zeroed}
+use Rattle.output.proofs.Writing.{zeroed-all}
+use Rattle.book.specs.Offsets.{offsetTable}
 use Rattle.graph.proofs.Chain.{the-type}
 use Rattle.graph.specs.declared.Chain.{Chain}
 use Rattle.graph.specs.declared.Chain.the-variants.{Refused, Stranger, One, Two, Three}

@@ -29,8 +29,8 @@ use Rattle.spec.proofs.BookLaws.{AcceptedBook, hops-good}
 use Rattle.spec.proofs.PathLaws.{direction-length, used-length, hops-length, head-length}
 use Rattle.spec.proofs.Bounds.{flat-exact}
 use Rattle.spec.proofs.ReadBack.{GoodInterface, good-interfaces}
-use Rattle.octets.specs.Write.{written, zeroed}
-use Rattle.octets.proofs.Writing.{written-pair, written-length, written-within, written-next, zeroed-rest, zeroed-all}
+use Rattle.output.specs.Write.{written, zeroed}
+use Rattle.output.proofs.Writing.{written-pair, written-length, written-within, written-next, zeroed-rest, zeroed-all}
 use Rattle.path.specs.declared.Part.the-variants.{Hops, Ases, Ids}
 use Rattle.graph.specs.declared.Chain.{Chain}
 use Rattle.graph.specs.declared.Chain.the-variants.{Refused, Stranger, One, Two, Three}

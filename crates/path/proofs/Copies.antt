@@ -12,8 +12,8 @@ use Rattle.spec.specs.Limits.{entrySize, peerSize}
 use Rattle.spec.specs.Octets.{Bytes, be16, octets2}
 use Rattle.spec.specs.Book.{macAt, asEntryAt, peerEntryAt}
 use Rattle.spec.specs.Records.{hopOctets}
-use Rattle.octets.specs.Write.{written}
-use Rattle.octets.proofs.Writing.{written-pair, octets2-length}
+use Rattle.output.specs.Write.{written}
+use Rattle.output.proofs.Writing.{written-pair, octets2-length}
 
 module _ (b : List ℕ) where
   next : (n i : ℕ) → i < length b → take (suc n) (drop i b) ≡ getD b i 0 ∷ take n (drop (i + 1) b)

@@ -20,8 +20,8 @@ use Rattle.spec.specs.Records.{hopOctets, asOctets, interfaceAsOctets, interfac
 use Rattle.spec.proofs.Lists.{flatMap-append}
 use Rattle.spec.proofs.ByteLaws.{hop-length}
 use Rattle.spec.proofs.BookLaws.{hop-good}
-use Rattle.octets.specs.Write.{written}
-use Rattle.octets.proofs.Writing.{octets2-length, octets8-length}
+use Rattle.output.specs.Write.{written}
+use Rattle.output.proofs.Writing.{octets2-length, octets8-length}
 use Rattle.path.specs.declared.Part.the-variants.{Hops, Ases, Ids}
 use Rattle.path.specs.Places.{isLeft, linkOffset, Here, Wrote}
 use Rattle.path.specs.Parts.{linkMtus, ingressShown, shownAs, asIf, idIf, interfacesHere, entryBytes}

@@ -23,9 +23,9 @@ use Rattle.spec.specs.Router.{hopEntry}
 use Rattle.spec.proofs.Membership.{not-both}
 use Rattle.spec.proofs.BookLaws.{AcceptedBook, accepted, entry-count, segment-length}
 use Rattle.spec.proofs.BodyLaws.{entry-place, body-end, peer-place}
-use Rattle.segment.specs.Offsets.{offsetTable}
+use Rattle.book.specs.Offsets.{offsetTable}
 use Rattle.segment.proofs.Fitting.{own-read, peers-read, peer-read, offset-small}
-use Rattle.segment.proofs.Tables.{table-at}
+use Rattle.book.proofs.Tables.{table-at}
 use Rattle.path.specs.Usable.{Ready, Usable}
 use Rattle.path.specs.Places.{isLeft, linkOffset, Link, Here, entryFrom}
 

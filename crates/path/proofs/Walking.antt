@@ -27,8 +27,8 @@ use Rattle.spec.proofs.Membership.{not-both}
 use Rattle.spec.proofs.Lists.{map-append, range-suc, range-up, range-down, flatMap-append}
 use Rattle.spec.proofs.ByteLaws.{info-length}
 use Rattle.spec.proofs.RouterLaws.{hops-entries, idBelow-next}
-use Rattle.octets.specs.Write.{written}
-use Rattle.octets.proofs.Writing.{written-pair}
+use Rattle.output.specs.Write.{written}
+use Rattle.output.proofs.Writing.{written-pair}
 use Rattle.path.specs.declared.Part.{Part}
 use Rattle.path.specs.declared.Part.the-variants.{Hops, Ases, Ids}
 use Rattle.path.specs.Usable.{Usable}

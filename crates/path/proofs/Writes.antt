@@ -5,8 +5,8 @@ use native.Mathlib.Omega.{arith}
 use mathlib.Core.Path.{_≡_, refl, sym, ap, ap₂, _∙_}
 use mathlib.Core.List.{List, [], _++_}
 use lib.ListN.{length, length-append}
-use Rattle.octets.specs.Write.{written}
-use Rattle.octets.proofs.Writing.{written-none, written-join}
+use Rattle.output.specs.Write.{written}
+use Rattle.output.proofs.Writing.{written-none, written-join}
 use Rattle.path.specs.Places.{Wrote}
 
 pub wrote-none : (d : List ℕ) (at : ℕ) → Wrote d at [] d at

@@ -13,7 +13,7 @@ use Rattle.spec.specs.Book.{asEntryAt, peerEntryAt, peerOffset}
 use Rattle.spec.specs.Edges.{entryOf, peerOf}
 use Rattle.spec.specs.Assembly.{atShortcut, isPeerHop, segmentOf}
 use Rattle.spec.specs.Router.{hopEntry}
-use Rattle.octets.specs.Write.{written}
+use Rattle.output.specs.Write.{written}
 
 -- entry m is the shortcut, above the segment's first entry: there the path leaves the segment, or comes to it
 unfoldable pub isLeft : Edge → ℕ → Bool

@@ -10,7 +10,7 @@ use Rattle.spec.specs.Book.{segmentCount, verdict}
 use Rattle.spec.specs.Edges.{entryOf}
 use Rattle.spec.specs.Assembly.{segmentOf}
 use Rattle.spec.specs.Router.{isAlong}
-use Rattle.segment.specs.Offsets.{offsetTable}
+use Rattle.book.specs.Offsets.{offsetTable}
 
 pub record Ready (b offsets : List ℕ) : Type 0 where
   pub ok : verdict b ≡ Accepted

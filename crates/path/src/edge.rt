@@ -6,7 +6,7 @@ ghost use Rattle.spec.specs.Limits.{maxEntries, infoSize};
 ghost use Rattle.spec.specs.Octets.{octets2, octets4};
 ghost use Rattle.spec.specs.Assembly.{least, unitsOf, hopsOn, mtusOn, expiryOn, idBelow, stopAt, segmentOf};
 ghost use Rattle.spec.specs.Records.{bit};
-ghost use Rattle.octets.specs.Write.{written};
+ghost use Rattle.output.specs.Write.{written};
 ghost use Rattle.path.specs.Usable.{Ready, Usable};
 ghost use Rattle.path.specs.Places.{Wrote};
 ghost use Rattle.path.specs.Parts.{infoBytes, edgeBytes, stopFrom, flagsOf};
@@ -160,10 +160,10 @@ fn put_fields(out: &mut [u8], at: usize, flags: u8, hops: u8, id: u16, timestamp
     requires { ⌜ at < 2 ^ 33 ⌝ }
     ensures { λ _. ⌜ now (out .exit) ≡ written (now (out .entry)) at ((flags ∷ hops ∷ []) ++ octets2 id ++ octets4 timestamp) ⌝ }
 {
-    octets::put_byte(out, at, flags);
-    octets::put_byte(out, at + 1, hops);
-    octets::put16(out, at + 2, id);
-    octets::put32(out, at + 4, timestamp);
+    output::put_byte(out, at, flags);
+    output::put_byte(out, at + 1, hops);
+    output::put16(out, at + 2, id);
+    output::put32(out, at + 4, timestamp);
 }
 
 pub(crate) fn put_info(

@@ -6,7 +6,7 @@ ghost use lib.ListN.{length};
 ghost use Rattle.spec.specs.Limits.{entrySize};
 ghost use Rattle.spec.specs.Book.{asEntryAt};
 ghost use Rattle.spec.specs.Edges.{asOf};
-ghost use Rattle.octets.specs.Write.{written};
+ghost use Rattle.output.specs.Write.{written};
 ghost use Rattle.spec.specs.Assembly.{least, mtusAt, hopOf, segmentOf};
 ghost use Rattle.spec.specs.Records.{hopOctets};
 ghost use Rattle.path.specs.Usable.{Ready, Usable};
@@ -69,9 +69,9 @@ fn put_own_hop(book: &[u8], at: usize, out: &mut [u8], to: usize)
     requires { ⌜ to < 2 ^ 40 ⌝ }
     ensures { λ _. ⌜ now (out .exit) ≡ written (now (out .entry)) to (hopOctets (asEntryAt (now (book .entry)) at .hop)) ⌝ }
 {
-    octets::put_byte(out, to, octets::byte_past(book, at, 18));
-    octets::copy(book, at + 14, 4, out, to + 1);
-    octets::copy(book, at + 19, 6, out, to + 5);
+    output::put_byte(out, to, octets::byte_past(book, at, 18));
+    output::copy(book, at + 14, 4, out, to + 1);
+    output::copy(book, at + 19, 6, out, to + 5);
 }
 
 // A peer's hop stands in the book as in a path.
@@ -83,7 +83,7 @@ fn put_hop(book: &[u8], e: Edge, m: usize, at: usize, out: &mut [u8], to: usize)
 {
     if places::is_peer_hop(e, m) {
         let from = places::link_offset(e, at) + 12;
-        octets::copy(book, from, HOP, out, to);
+        output::copy(book, from, HOP, out, to);
         return to + HOP;
     }
     put_own_hop(book, at, out, to);
@@ -130,7 +130,7 @@ fn put_as(out: &mut [u8], to: usize, local: IsdAsn, id: u16) -> usize
     if id == 0 {
         return to;
     }
-    octets::put64(out, to, local.0);
+    output::put64(out, to, local.0);
     to + 8
 }
 
@@ -141,7 +141,7 @@ fn put_id(out: &mut [u8], to: usize, id: u16) -> usize
     if id == 0 {
         return to;
     }
-    octets::put16(out, to, id);
+    output::put16(out, to, id);
     to + 2
 }
 

@@ -42,11 +42,11 @@ pub(crate) fn build(
     let ases = front.ases;
     let count = (front.ids - ases) / 8;
     if frequent::is_frequent(out, ases, count) {
-        octets::zero(out, 0);
+        output::zero(out, 0);
         return PathAnswer::Loop;
     }
     if count == 0 {
-        octets::zero(out, 0);
+        output::zero(out, 0);
         return PathAnswer::Bare;
     }
     record::put_path(book, table, chain, out, front);
@@ -61,15 +61,15 @@ pub fn assemble(src: IsdAsn, dst: IsdAsn, book: &[u8], given: &[u8], out: &mut [
     let mut table = [0u16; places::PLACES];
     let chain = graph::chain_of(src, dst, book, given, &mut table);
     if let Chain::Refused(r) = chain {
-        octets::zero(out, 0);
+        output::zero(out, 0);
         return PathAnswer::Refused(r);
     }
     if out.len() < Path::SIZE {
-        octets::zero(out, 0);
+        output::zero(out, 0);
         return PathAnswer::Refused(Refusal::Small);
     }
     if let Chain::Stranger = chain {
-        octets::zero(out, 0);
+        output::zero(out, 0);
         return PathAnswer::Refused(Refusal::Stranger);
     }
     build(book, &table, chain, out)

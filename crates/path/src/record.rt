@@ -8,7 +8,7 @@ ghost use Rattle.spec.specs.Basics.{padded};
 ghost use Rattle.spec.specs.Octets.{octets2, octets4, octets8};
 ghost use Rattle.spec.specs.Assembly.{least, mtusOn, expiryOn, combinedPath};
 ghost use Rattle.spec.specs.Records.{pathHead, pathHeadOctets, pathOctets};
-ghost use Rattle.octets.specs.Write.{written};
+ghost use Rattle.output.specs.Write.{written};
 ghost use Rattle.graph.specs.Recorded.{chainEdges};
 ghost use Rattle.path.specs.Usable.{Ready, Usable};
 ghost use Rattle.path.specs.Places.{Wrote};
@@ -191,19 +191,19 @@ fn path_head(
 fn put_counts(out: &mut [u8], infos: u8, hops: u8, interfaces: u8)
     ensures { λ _. ⌜ now (out .exit) ≡ written (now (out .entry)) 0 (infos ∷ hops ∷ interfaces ∷ 0 ∷ []) ⌝ }
 {
-    octets::put_byte(out, 0, infos);
-    octets::put_byte(out, 1, hops);
-    octets::put_byte(out, 2, interfaces);
-    octets::put_byte(out, 3, 0);
+    output::put_byte(out, 0, infos);
+    output::put_byte(out, 1, hops);
+    output::put_byte(out, 2, interfaces);
+    output::put_byte(out, 3, 0);
 }
 
 fn put_ends(out: &mut [u8], mtu: u16, expiry: u32, first: u64, last: u64)
     ensures { λ _. ⌜ now (out .exit) ≡ written (now (out .entry)) 4 (octets2 mtu ++ octets4 expiry ++ octets8 first ++ octets8 last) ⌝ }
 {
-    octets::put16(out, 4, mtu);
-    octets::put32(out, 6, expiry);
-    octets::put64(out, 10, first);
-    octets::put64(out, 18, last);
+    output::put16(out, 4, mtu);
+    output::put32(out, 6, expiry);
+    output::put64(out, 10, first);
+    output::put64(out, 18, last);
 }
 
 fn put_head(out: &mut [u8], head: Path)
@@ -233,5 +233,5 @@ pub(crate) fn put_path(
     let head = path_head(book, table, chain, out, front);
     let end = put_parts(book, table, chain, Part::Ids, out, front.ids);
     put_head(out, head);
-    octets::zero(out, end);
+    output::zero(out, end);
 }

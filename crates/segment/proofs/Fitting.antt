@@ -2,12 +2,12 @@
 -- Assumes nothing.
 use mathlib.Core.Path.{_≡_, refl, sym, ap, _∙_}
 use mathlib.Core.List.{List, map}
-use Prim.Native.Nat.{ℕ, zero, suc, _+_, _≤_, _<_}
+use Prim.Native.Nat.{ℕ, zero, suc, _+_, _*_, _≤_, _<_}
 use native.Mathlib.Nat.{add-zero}
 use native.Mathlib.Numerals.{add-one}
 use native.Mathlib.Omega.{arith}
 use lib.ListN.{length, getD, length-map}
-use Rattle.spec.specs.Limits.{entrySize, maxBook, maxSegments}
+use Rattle.spec.specs.Limits.{entrySize, peerSize, maxBook, maxSegments}
 use Rattle.spec.specs.Basics.{range}
 use Rattle.spec.specs.Book.{Entry, segmentCount, entryCountAt, bodyOffset, peerCount, entryEnd, peerOffset, peerEntryAt, peerOfEntryAt, asEntryAt, entryAt, entryOffset, segmentAt}
 use Rattle.spec.specs.Edges.{noPeer, entryOf, peerOf}
@@ -19,6 +19,15 @@ use Rattle.spec.proofs.BodyLaws.{entry-at, entry-place, body-end}
 pub offset-more : (b : List ℕ) (at i : ℕ) → entryOffset b at (i + 1) ≡ entryEnd b (entryOffset b at i)
 unfolding entryOffset
 offset-more b at i = rw add-one
+
+-- past an entry, by its size
+pub end-is : (b : List ℕ) (at : ℕ) {size : ℕ} → size ≡ entrySize + peerSize * peerCount b at → at + size ≡ entryEnd b at
+unfolding entryEnd
+end-is b at q = omega arith
+
+pub offset-step : (b : List ℕ) (start i : ℕ) {at size : ℕ} → at ≡ entryOffset b start i → size ≡ entrySize + peerSize * peerCount b at
+    → at + size ≡ entryOffset b start (i + 1)
+offset-step b start i {at = at} e q = end-is b at q ∙ ap (entryEnd b) e ∙ sym (offset-more b start i)
 
 -- the offsets from the second entry on
 pub offset-next : (b : List ℕ) (at i : ℕ) → entryOffset b (entryEnd b at) i ≡ entryOffset b at (suc i)

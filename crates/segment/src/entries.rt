@@ -1,8 +1,8 @@
 // The entries and peers of a book, read at their offsets.
 ghost use mathlib.Core.Path.{_≡_};
-ghost use Prim.Native.Nat.{_+_, _*_, _^_, _≤_, _<_};
+ghost use Prim.Native.Nat.{_+_, _*_, _≤_, _<_};
 ghost use Rattle.spec.specs.Limits.{entrySize, peerSize};
-ghost use Rattle.spec.specs.Book.{isdAsnAt, macAt, peerCount, entryEnd, asEntryAt, peerEntryAt};
+ghost use Rattle.spec.specs.Book.{isdAsnAt, macAt, peerCount, asEntryAt, peerEntryAt};
 use spec::AsEntry;
 use spec::HopField;
 use spec::IsdAsn;
@@ -30,18 +30,17 @@ fn mac_past(book: &[u8], at: usize, i: u8) -> [u8; 6]
 }
 
 // How many peers the entry at an offset has.
-pub(crate) fn peer_count(book: &[u8], at: usize) -> u8
+pub fn peer_count(book: &[u8], at: usize) -> u8
     ensures { λ r. ⌜ r ≡ peerCount (now (book .entry)) at ⌝ }
 {
     octets::byte_past(book, at, 25)
 }
 
-// Past the entry at an offset and its peers.
-pub(crate) fn entry_end(book: &[u8], at: usize) -> usize
-    requires { ⌜ at < 2 ^ 48 ⌝ }
-    ensures { λ r. ⌜ (r ≡ entryEnd (now (book .entry)) at) × (r ≤ at + entrySize + peerSize * 255) ⌝ }
+// The bytes of the entry at an offset with its peers.
+pub fn entry_size(book: &[u8], at: usize) -> usize
+    ensures { λ r. ⌜ (r ≡ entrySize + peerSize * peerCount (now (book .entry)) at) × (r ≤ entrySize + peerSize * 255) ⌝ }
 {
-    at + AsEntry::SIZE + PeerEntry::SIZE * (peer_count(book, at) as usize)
+    AsEntry::SIZE + PeerEntry::SIZE * (peer_count(book, at) as usize)
 }
 
 // The entry at an offset.

@@ -1,22 +1,15 @@
-// A book of segments, read where it lies: the answer about it alone, its heads, entries and peers, which
-// segments are equal, and their fingerprints. `spec` has the definitions that the contracts cite. Every
-// function answers for any bytes: what lies past the book's end reads as 0.
-mod answer;
+// The readers of a book of segments, over its bytes where they lie: sizes, heads, entries and peers.
+// `spec` has the definitions that the contracts cite. Every function answers for any bytes: what lies
+// past the book's end reads as 0.
 mod entries;
 mod heads;
-mod numbers;
-mod offsets;
-mod print;
-mod same;
 
-pub use answer::verdict;
 pub use entries::as_entry;
+pub use entries::entry_size;
 pub use entries::isd_asn;
+pub use entries::peer_count;
 pub use entries::peer_entry;
+pub use heads::body_offset;
 pub use heads::head;
+pub use heads::segment_count;
 pub use heads::sizes;
-pub use offsets::PLACES;
-pub use offsets::entry_offsets;
-pub use print::fingerprint;
-pub use same::is_first;
-pub use same::same_segment;

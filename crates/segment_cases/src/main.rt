@@ -26,7 +26,7 @@ fn number(v: Verdict) -> u64 {
 fn show(label: &[u8], book: &[u8]) {
     io::write_all(libc::STDOUT_FILENO, label);
     io::write_all(libc::STDOUT_FILENO, b": ");
-    io::print_hex(libc::STDOUT_FILENO, number(segment::verdict(book)), 1);
+    io::print_hex(libc::STDOUT_FILENO, number(book::verdict(book)), 1);
     io::write_all(libc::STDOUT_FILENO, b"\n");
 }
 

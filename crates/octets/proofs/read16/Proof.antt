@@ -1,8 +1,8 @@
 -- `octets::read16` meets its contract.
 -- Assumes nothing.
-use Rattle.spec.specs.Octets.{be16}
-use native.Mathlib.Nat.{add-assoc}
+use mathlib.Core.Path.{_∙_}
 use native.Mathlib.Omega.{arith}
+use Rattle.octets.proofs.Halves.{past16}
 use borrow.Author.Needs.{needs}
 use Rattle.octets.proofs.read16.Statement.{statement}
 use Rattle.octets.proofs.read16.Tie as tie
@@ -14,8 +14,8 @@ within16-requires : tie.Need-within16-requires
 within16-requires c κs = omega (arith, c .before .inside .ensures .0 (c .if1 .taken))
 
 returns-2 : tie.Need-returns-2
-unfolding be16
-returns-2 c = rw add-assoc cc
+returns-2 c =
+    past16 _ _ _ (c .before .before .wide16 .ensures .0 ∙ c .before .before .before .read8 .ensures) (c .wide162 .ensures .0 ∙ c .before .read82 .ensures)
 
 pub read16-spec : {M : Type 1} → statement M
 read16-spec =

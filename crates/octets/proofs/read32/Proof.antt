@@ -1,8 +1,8 @@
 -- `octets::read32` meets its contract.
 -- Assumes nothing.
-use Rattle.spec.specs.Octets.{be32}
-use native.Mathlib.Nat.{add-assoc}
+use mathlib.Core.Path.{_∙_}
 use native.Mathlib.Omega.{arith}
+use Rattle.octets.proofs.Halves.{past32}
 use borrow.Author.Needs.{needs}
 use Rattle.octets.proofs.read32.Statement.{statement}
 use Rattle.octets.proofs.read32.Tie as tie
@@ -14,8 +14,8 @@ within32-requires : tie.Need-within32-requires
 within32-requires c κs = omega (arith, c .before .inside .ensures .0 (c .if1 .taken))
 
 returns-2 : tie.Need-returns-2
-unfolding be32
-returns-2 c = rw add-assoc cc
+returns-2 c =
+    past32 _ _ _ (c .before .before .wide32 .ensures .0 ∙ c .before .before .before .read16 .ensures) (c .wide322 .ensures .0 ∙ c .before .read162 .ensures)
 
 pub read32-spec : {M : Type 1} → statement M
 read32-spec =

@@ -1,8 +1,8 @@
 -- `octets::read64` meets its contract.
 -- Assumes nothing.
-use Rattle.spec.specs.Octets.{be64}
-use native.Mathlib.Nat.{add-assoc}
+use mathlib.Core.Path.{_∙_}
 use native.Mathlib.Omega.{arith}
+use Rattle.octets.proofs.Halves.{past64}
 use borrow.Author.Needs.{needs}
 use Rattle.octets.proofs.read64.Statement.{statement}
 use Rattle.octets.proofs.read64.Tie as tie
@@ -14,8 +14,8 @@ within64-requires : tie.Need-within64-requires
 within64-requires c κs = omega (arith, c .before .inside .ensures .0 (c .if1 .taken))
 
 returns-2 : tie.Need-returns-2
-unfolding be64
-returns-2 c = rw add-assoc cc
+returns-2 c =
+    past64 _ _ _ (c .before .before .wide64 .ensures .0 ∙ c .before .before .before .read32 .ensures) (c .wide642 .ensures .0 ∙ c .before .read322 .ensures)
 
 pub read64-spec : {M : Type 1} → statement M
 read64-spec =

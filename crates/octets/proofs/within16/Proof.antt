@@ -1,13 +1,12 @@
 -- `octets::within16` meets its contract.
 -- Assumes nothing.
-use Rattle.spec.specs.Octets.{be16}
+use Rattle.octets.proofs.Halves.{halves16}
 use borrow.Author.Needs.{needs}
 use Rattle.octets.proofs.within16.Statement.{statement}
 use Rattle.octets.proofs.within16.Tie as tie
 
 returns : tie.Need-returns
-unfolding be16
-returns c = cc
+returns c = halves16 _ _ (c .before .before .wide16 .ensures .0) (c .wide162 .ensures .0)
 
 pub within16-spec : {M : Type 1} → statement M
 within16-spec =

@@ -1,13 +1,13 @@
 -- `as_entry` meets its contract.
 -- Assumes nothing.
-use Rattle.spec.specs.Book.{asEntryAt}
+use Rattle.segment.proofs.Fields.{entry-is}
 use borrow.Author.Needs.{needs}
 use Rattle.segment.proofs.entries.as_entry.Statement.{statement}
 use Rattle.segment.proofs.entries.as_entry.Tie as tie
 
 returns : tie.Need-returns
-unfolding asEntryAt
-returns c = cc
+returns c =
+    entry-is _ _ (c .before .before .before .before .before .before .before .isd-asn .ensures) (c .before .before .before .before .before .before .be32-past .ensures) (c .before .before .before .before .before .be16-past .ensures) (c .before .before .before .before .be16-past2 .ensures) (c .before .before .before .be16-past3 .ensures) (c .before .before .byte-past .ensures) (c .before .mac-past .ensures) (c .peer-count .ensures)
 
 pub as-entry-spec : {M : Type 1} → statement M
 as-entry-spec =

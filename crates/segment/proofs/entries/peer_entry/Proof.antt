@@ -1,13 +1,13 @@
 -- `peer_entry` meets its contract.
 -- Assumes nothing.
-use Rattle.spec.specs.Book.{peerEntryAt}
+use Rattle.segment.proofs.Fields.{peer-is}
 use borrow.Author.Needs.{needs}
 use Rattle.segment.proofs.entries.peer_entry.Statement.{statement}
 use Rattle.segment.proofs.entries.peer_entry.Tie as tie
 
 returns : tie.Need-returns
-unfolding peerEntryAt
-returns c = cc
+returns c =
+    peer-is _ _ (c .before .before .before .before .before .before .isd-asn .ensures) (c .before .before .before .before .before .be16-past .ensures) (c .before .before .before .before .be16-past2 .ensures) (c .before .before .before .byte-past .ensures) (c .before .before .be16-past3 .ensures) (c .before .be16-past4 .ensures) (c .mac-past .ensures)
 
 pub peer-entry-spec : {M : Type 1} → statement M
 peer-entry-spec =

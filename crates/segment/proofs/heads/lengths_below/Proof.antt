@@ -4,7 +4,8 @@ use mathlib.Core.Path.{_≡_}
 use Prim.Native.Nat.{_*_, _-_, _≤_}
 use native.Mathlib.Omega.{arith}
 use Rattle.spec.specs.Book.{lengthsBelow}
-use Rattle.segment.proofs.Turns.{lengths-more}
+use Rattle.segment.proofs.Positions.{lengths-more}
+use Rattle.segment.proofs.Fields.{length-read}
 use borrow.Author.Needs.{needs}
 use Rattle.segment.proofs.heads.lengths_below.Statement.{statement}
 use Rattle.segment.proofs.heads.lengths_below.Tie as tie
@@ -20,7 +21,10 @@ unfolding lengthsBelow
 loop-holds c = (omega arith, omega arith, omega arith)
 
 loop-again : tie.Need-loop-again Inv-loop μ-loop
-loop-again c = (omega arith, omega arith, omega (arith, lengths-more (c .before .before .before .before .before .args .book .now) (c .before .before .before .loop .i)))
+loop-again c =
+    let l = c .before .before .before in
+    let b = l .before .before .args .book .now in
+    (omega arith, omega arith, omega (arith, lengths-more b (l .loop .i), length-read b (l .loop .i) (c .before .head .ensures)))
 
 returns : tie.Need-returns Inv-loop μ-loop
 returns c = let e : c .before .loop .i ≡ c .before .before .before .args .k = omega arith in

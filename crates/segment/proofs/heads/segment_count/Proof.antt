@@ -1,13 +1,13 @@
 -- `segment_count` meets its contract.
 -- Assumes nothing.
-use Rattle.spec.specs.Book.{segmentCount}
+use Rattle.spec.specs.Book.{cores, nonCores, segmentCount}
 use native.Mathlib.Omega.{arith}
 use borrow.Author.Needs.{needs}
 use Rattle.segment.proofs.heads.segment_count.Statement.{statement}
 use Rattle.segment.proofs.heads.segment_count.Tie as tie
 
 returns : tie.Need-returns
-unfolding segmentCount
+unfolding segmentCount cores nonCores
 returns c = (omega arith, omega arith)
 
 pub segment-count-spec : {M : Type 1} → statement M

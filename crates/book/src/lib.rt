@@ -1,0 +1,9 @@
+// A book of segments as a whole: the answer about it alone, and where its entries start. Every function
+// answers for any bytes: what lies past the book's end reads as 0.
+mod answer;
+mod numbers;
+mod offsets;
+
+pub use answer::verdict;
+pub use offsets::PLACES;
+pub use offsets::entry_offsets;

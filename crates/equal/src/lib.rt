@@ -1,0 +1,115 @@
+// Equal segments: of the same kind, timestamp, id and body. They count once, under the first position.
+// Every function answers for any bytes: what lies past the book's end reads as 0.
+ghost use mathlib.Core.Path.{_≡_};
+ghost use Prim.Native.Nat.{_+_, _^_, _≤_, _<_, min};
+ghost use lib.ListN.{length};
+ghost use lib.Dec.{ltb};
+ghost use Rattle.spec.specs.Book.{cores, segmentAt, segments};
+ghost use Rattle.spec.specs.Edges.{sameBool, sameSegment, isFirst};
+ghost use Rattle.equal.specs.Same.{sameHead, sameParts};
+
+fn wide(x: u16) -> usize
+    ensures { λ r. ⌜ (r ≡ x) × (r < 2 ^ 16) ⌝ }
+{
+    x as usize
+}
+
+fn least(a: usize, b: usize) -> usize
+    ensures { λ r. ⌜ r ≡ min a b ⌝ }
+{
+    if a < b { a } else { b }
+}
+
+fn same_bool(a: bool, b: bool) -> bool
+    ensures { λ r. ⌜ r ≡ sameBool a b ⌝ }
+{
+    if a { b } else { !b }
+}
+
+// The segment at position k is a core segment.
+fn is_core(book: &[u8], k: u8) -> bool
+    ensures { λ r. ⌜ r ≡ ltb k (cores (now (book .entry))) ⌝ }
+{
+    (k as u16) < segment::sizes(book).cores
+}
+
+// The segments at j and k are of the same kind, timestamp and id.
+fn same_head(book: &[u8], j: u8, k: u8) -> bool
+    ensures { λ r. ⌜ r ≡ sameHead (now (book .entry)) j k ⌝ }
+{
+    let one = segment::head(book, j);
+    let other = segment::head(book, k);
+    if one.id != other.id {
+        return false;
+    }
+    if one.timestamp != other.timestamp {
+        return false;
+    }
+    same_bool(is_core(book, j), is_core(book, k))
+}
+
+// The n bytes at i and those at j are the same.
+fn same_bytes(book: &[u8], i: usize, j: usize, n: usize) -> bool
+    requires { ⌜ i + n ≤ length (now book) ⌝ }
+    requires { ⌜ j + n ≤ length (now book) ⌝ }
+    ensures { λ r. ⌜ r ≡ sameParts (now (book .entry)) i n j n ⌝ }
+{
+    let mut m: usize = 0;
+    while m < n {
+        if book[i + m] != book[j + m] {
+            return false;
+        }
+        m += 1;
+    }
+    true
+}
+
+// The m bytes at i and the n at j are the same; of either only those that lie in the book.
+fn same_parts(book: &[u8], i: usize, m: usize, j: usize, n: usize) -> bool
+    ensures { λ r. ⌜ r ≡ sameParts (now (book .entry)) i m j n ⌝ }
+{
+    let size = book.len();
+    let p = least(i, size);
+    let q = least(j, size);
+    let u = least(m, size - p);
+    let v = least(n, size - q);
+    if u != v {
+        return false;
+    }
+    same_bytes(book, p, q, u)
+}
+
+pub fn same_segment(book: &[u8], j: u8, k: u8) -> bool
+    ensures { λ r. ⌜ r ≡ sameSegment (segmentAt (now (book .entry)) j) (segmentAt (now (book .entry)) k) ⌝ }
+{
+    if !same_head(book, j, k) {
+        return false;
+    }
+    let m = wide(segment::head(book, j).body);
+    let n = wide(segment::head(book, k).body);
+    let at_j = segment::body_offset(book, j);
+    let at_k = segment::body_offset(book, k);
+    same_parts(book, at_j, m, at_k, n)
+}
+
+// No equal segment of the book stands at a lower position. The offset of the body at j is carried along.
+pub fn is_first(book: &[u8], k: u8) -> bool
+    ensures { λ r. ⌜ r ≡ isFirst (segments (now (book .entry))) (segmentAt (now (book .entry)) k) ⌝ }
+{
+    let count = least(k as usize, segment::segment_count(book)) as u8;
+    let at = segment::body_offset(book, k);
+    let n = wide(segment::head(book, k).body);
+    let mut start = segment::body_offset(book, 0);
+    let mut j: u8 = 0;
+    while j < count {
+        let m = wide(segment::head(book, j).body);
+        if same_head(book, k, j) {
+            if same_parts(book, at, n, start, m) {
+                return false;
+            }
+        }
+        start += m;
+        j += 1;
+    }
+    true
+}

@@ -1,0 +1,66 @@
+// The fingerprint of a segment: SHA-256 over each entry's AS, ingress and egress, in order. It answers for
+// any bytes: what lies past the book's end reads as 0.
+ghost use mathlib.Core.Path.{_≡_};
+ghost use Prim.Native.Nat.{_+_, _*_, _^_, _≤_, _<_, min};
+ghost use lib.ListN.{take};
+ghost use Rattle.spec.specs.Limits.{maxEntries};
+ghost use Rattle.spec.specs.Book.{segmentAt, entryAt};
+ghost use Rattle.spec.specs.Order.{entryInput, fingerprintInput};
+ghost use Rattle.output.specs.Write.{written};
+ghost use Rattle.sha256.specs.Message.{sha256};
+ghost use Rattle.fingerprint.specs.Print.{inputSize, inputs};
+use spec::Limits;
+
+// The bytes of an entry that its segment's fingerprint takes in, and of a segment's.
+const INPUT: usize = 12;
+
+const MESSAGE: usize = INPUT * Limits::ENTRIES;
+
+fn wide(x: u16) -> usize
+    ensures { λ r. ⌜ (r ≡ x) × (r < 2 ^ 16) ⌝ }
+{
+    x as usize
+}
+
+fn least(a: usize, b: usize) -> usize
+    ensures { λ r. ⌜ r ≡ min a b ⌝ }
+{
+    if a < b { a } else { b }
+}
+
+// Writes what the entry at an offset gives, from `place` on.
+fn put_entry(book: &[u8], message: &mut [u8], place: usize, at: usize)
+    requires { ⌜ place < 2 ^ 32 ⌝ }
+    ensures { λ r. ⌜ now (message .exit) ≡ written (now (message .entry)) place (entryInput (entryAt (now (book .entry)) at)) ⌝ }
+{
+    output::put64(message, place, octets::be64(book, at));
+    output::put16(message, place + 8, octets::be16_past(book, at, 14));
+    output::put16(message, place + 10, octets::be16_past(book, at, 16));
+}
+
+// What `count` entries from `start` on give, and zeros.
+fn message(book: &[u8], start: usize, count: usize) -> [u8; MESSAGE]
+    requires { ⌜ count ≤ maxEntries ⌝ }
+    requires { ⌜ start < 2 ^ 32 ⌝ }
+    ensures { λ r. ⌜ take (inputSize * count) r ≡ inputs (now (book .entry)) start count ⌝ }
+{
+    let mut m = [0u8; MESSAGE];
+    let mut at = start;
+    let mut i: usize = 0;
+    while i < count {
+        put_entry(book, &mut m, INPUT * i, at);
+        at += segment::entry_size(book, at);
+        i += 1;
+    }
+    m
+}
+
+// Of the entries past the limit, which an accepted book does not have, nothing is taken in.
+pub fn fingerprint(book: &[u8], k: u8) -> [u8; 32]
+    ensures { λ r. ⌜ r ≡ sha256 (take (inputSize * maxEntries) (fingerprintInput (segmentAt (now (book .entry)) k))) ⌝ }
+{
+    let count = least(Limits::ENTRIES, wide(segment::head(book, k).entries));
+    let m = message(book, segment::body_offset(book, k), count);
+    let n = INPUT * count;
+    sha256::sha256(&m[..n])
+}
