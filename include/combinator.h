@@ -48,7 +48,8 @@
  * There is no state: both functions may be called at the same time from any threads, each call with
  * an output of its own.
  *
- * TODO: COMBINATOR_STACK_SIZE, the stack that one call needs, measured by `driver stack`.
+ * A call needs at most COMBINATOR_STACK_SIZE bytes of stack: `driver stack` measured 77,751 for
+ * combinator_list and 5,631 for combinator_assemble; the constant leaves room above that.
  */
 #ifndef COMBINATOR_H
 #define COMBINATOR_H
@@ -65,6 +66,9 @@ extern "C" {
 #define COMBINATOR_PATH_SIZE 1538     /* the least output of combinator_assemble */
 #define COMBINATOR_MAX_SOLUTIONS 4096 /* slots that are used of a longer output */
 #define COMBINATOR_LIST_SIZE 65536    /* an output with all slots: 4,096 records */
+
+/* The stack that a call needs. */
+#define COMBINATOR_STACK_SIZE 98304
 
 /* Limits of a book. */
 #define COMBINATOR_MAX_BOOK 61440 /* bytes */
