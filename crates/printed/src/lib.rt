@@ -1,0 +1,2 @@
+// The printed list, piece by piece, in a lent buffer.
+mod text;
