@@ -61,7 +61,7 @@ module _ (seg : Segment) where
   unfolding asUp
   as-up-mem i m = when-mem (asStands seg i) (up-edge i) m
 
-  peer-up-mem : (i p : ℕ) {e : Edge} → Mem e (peerUp seg i p) → (peerStands seg i p ≡ true) × (e ≡ up-peer i p)
+  pub peer-up-mem : (i p : ℕ) {e : Edge} → Mem e (peerUp seg i p) → (peerStands seg i p ≡ true) × (e ≡ up-peer i p)
   unfolding peerUp
   peer-up-mem i p m = when-mem (peerStands seg i p) (up-peer i p) m
 
@@ -254,7 +254,7 @@ module _ (seg : Segment) where
     unfolding linkOf
     link-between i p r = up-link seg nc _ _ _ _ r
 
-    peer-stored : (i p : ℕ) → i < entryCount seg → p < peerCountOf seg i → peerStands seg i p ≡ true → between seg leaf (linkOf seg i p) ≡ up-peer i p ∷ []
+    pub peer-stored : (i p : ℕ) → i < entryCount seg → p < peerCountOf seg i → peerStands seg i p ≡ true → between seg leaf (linkOf seg i p) ≡ up-peer i p ∷ []
     peer-stored i p l m s =
         let v : Vertex = linkOf seg i p in
         let q = not-and (any (isLink seg v i) (range (p + 1) (peerCountOf seg i - (p + 1)))) (any (hasLink seg v) (range 0 i)) (unfold peerStands in s) in
@@ -302,6 +302,20 @@ module _ (seg : Segment) where
         go (AS a) h = as-given e a h
         go (Peering l i p j) h = link-given e l p i j h
 
+    -- a peer's edge up that is stored is the one that stands there
+    pub peer-given : (i p : ℕ) {e : Edge} → Mem e (storedOf seg) → e .src ≡ leaf → e .shortcut ≡ i → e .peer ≡ p + 1 → Mem e (peerUp seg i p)
+    unfolding peerUp
+    peer-given i p {e} m q s r =
+        let w = flatMap-mem (upsAt seg) (range 0 (entryCount seg)) (given e m q) in
+        go (w .0) (ups-mem (w .0) (w .2))
+      where
+        go : (j : ℕ) → Up j e → Mem e (peerUp seg i p)
+        go j (to-as t x) = absurd (omega (arith, up-edge-peer j x))
+        go j (to-peer o l t x) =
+            let a : j ≡ i = sym (ups-shortcut j (to-peer o l t x)) ∙ s in
+            let b : o ≡ p = omega (arith, up-peer-peer j o x) in
+            subst (Mem e) (ap₂ (peerUp seg) a b) (mem-when (peerStands seg j o) (up-peer j o) t x)
+
     -- one that does not leave the leaf arrives at it
     arrives : (e : Edge) → Mem e (storedOf seg) → (leaf ≡ e .src → ⊥) → e .dst ≡ leaf
     arrives e m n = go (sameVertex (e .dst) leaf) refl
@@ -328,7 +342,7 @@ module _ (seg : Segment) where
           leaves-mem (AS src) (u .0) (u .1 ∙ ap AS (sameAs-eq (leafAs seg) src s))
       go false false c false s m = let w = between-stored seg (AS src) leaf m in leaves-mem (AS src) (w .0) (w .1)
 
-  between-mem : (v w : Vertex) {e : Edge} → Mem e (storedOf seg) → e .src ≡ v → e .dst ≡ w → Mem e (between seg v w)
+  pub between-mem : (v w : Vertex) {e : Edge} → Mem e (storedOf seg) → e .src ≡ v → e .dst ≡ w → Mem e (between seg v w)
   unfolding between
   between-mem v w {e} m p q = mem-filter (hasEnds v w) (storedOf seg) m (eq-ends v w e p q)
 

@@ -2,6 +2,7 @@ pub mod LookupScan
 pub mod LookupLaws
 pub mod LeavingLaws
 pub mod LookupReads
+pub mod IdentityLaws
 pub mod SearchLists
 pub mod SearchLaws
 pub mod SearchFound
@@ -11,3 +12,7 @@ pub mod PushedLaws
 pub mod PushedRecords
 pub mod PushedTurns
 pub mod ListLaws
+pub mod NamedLaws
+pub mod NamedPlaces
+pub mod RecordedLaws
+pub mod NamedTurns

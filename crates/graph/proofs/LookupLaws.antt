@@ -148,17 +148,18 @@ module _ (v w : Vertex) where
 pub between-one : (seg : Segment) (v w : Vertex) → length (between seg v w) ≤ 1
 between-one seg v w = omega (arith, ap length (between-last v w seg), last-one (hasEnds v w) (insertions seg))
 
+-- a list of at most one edge, which is in it
+pub one-is : (e : Edge) (l : List Edge) → length l ≤ 1 → Mem e l → l ≡ e ∷ []
+one-is e [] h k = absurd (not-nil k)
+one-is e (x ∷ []) h k = ⊎-elim (λ q. ap (λ y. y ∷ []) (sym q)) (λ n. absurd (not-nil n)) (cases-cons k)
+one-is e (x ∷ y ∷ l) h k = absurd (omega arith)
+
 -- an edge is stored just where it is what is between its ends
 pub stored-between : (seg : Segment) (e : Edge) → Mem e (storedOf seg) → between seg (e .src) (e .dst) ≡ e ∷ []
-stored-between seg e m = go (between seg (e .src) (e .dst)) (between-one seg (e .src) (e .dst)) among
+stored-between seg e m = one-is e (between seg (e .src) (e .dst)) (between-one seg (e .src) (e .dst)) among
   where
     among : Mem e (between seg (e .src) (e .dst))
     among = unfold between in mem-filter (hasEnds (e .src) (e .dst)) (storedOf seg) m (eq-ends (e .src) (e .dst) e refl refl)
-
-    go : (l : List Edge) → length l ≤ 1 → Mem e l → l ≡ e ∷ []
-    go [] h k = absurd (not-nil k)
-    go (x ∷ []) h k = ⊎-elim (λ q. ap (λ y. y ∷ []) (sym q)) (λ n. absurd (not-nil n)) (cases-cons k)
-    go (x ∷ y ∷ l) h k = absurd (omega arith)
 
 pub between-stored : (seg : Segment) (v w : Vertex) {e : Edge} → Mem e (between seg v w) → Mem e (storedOf seg) × (e .src ≡ v) × (e .dst ≡ w)
 unfolding between
@@ -192,11 +193,11 @@ module _ (seg : Segment) where
   abbrev down-edge : ℕ → Edge
   down-edge i = edgeOf seg (AS (asOf seg i)) leaf (entryCount seg - 1 - i) i 0
 
-  as-other : (i : ℕ) → (i ≡ entryCount seg - 1 → ⊥) → asInsertions seg i ≡ up-edge i ∷ down-edge i ∷ []
+  pub as-other : (i : ℕ) → (i ≡ entryCount seg - 1 → ⊥) → asInsertions seg i ≡ up-edge i ∷ down-edge i ∷ []
   unfolding asInsertions entryCount
   as-other i h = ap (λ t. if t then [] else up-edge i ∷ down-edge i ∷ []) (ne-eqb i (length (seg .entries) - 1) h)
 
-  as-leaf : (i : ℕ) → i ≡ entryCount seg - 1 → asInsertions seg i ≡ []
+  pub as-leaf : (i : ℕ) → i ≡ entryCount seg - 1 → asInsertions seg i ≡ []
   unfolding asInsertions entryCount
   as-leaf i h = ap (λ t. if t then [] else up-edge i ∷ down-edge i ∷ []) (eq-eqb i (length (seg .entries) - 1) h)
 
@@ -210,11 +211,11 @@ module _ (seg : Segment) where
   abbrev down-peer : ℕ → ℕ → Edge
   down-peer i p = edgeOf seg (turned i p) leaf (entryCount seg - 1 - i) i (p + 1)
 
-  peer-two : (i p : ℕ) → peerInsertions seg i p ≡ up-peer i p ∷ down-peer i p ∷ []
+  pub peer-two : (i p : ℕ) → peerInsertions seg i p ≡ up-peer i p ∷ down-peer i p ∷ []
   unfolding peerInsertions entryCount linkOf
   peer-two i p = refl
 
-  entry-parts : (i : ℕ) → entryInsertions seg i ≡ asInsertions seg i ++ flatMap (peerInsertions seg i) (range 0 (peerCountOf seg i))
+  pub entry-parts : (i : ℕ) → entryInsertions seg i ≡ asInsertions seg i ++ flatMap (peerInsertions seg i) (range 0 (peerCountOf seg i))
   unfolding entryInsertions peerCountOf
   entry-parts i = refl
 
@@ -294,7 +295,7 @@ module _ (seg : Segment) where
   -- ---- a non-core segment
 
   module _ (nc : seg .core ≡ false) where
-    insertions-other : insertions seg ≡ flatMap (entryInsertions seg) (reverse (range 0 (entryCount seg)))
+    pub insertions-other : insertions seg ≡ flatMap (entryInsertions seg) (reverse (range 0 (entryCount seg)))
     unfolding insertions entryCount
     insertions-other =
         ap (λ x. if x then coreInsertions seg else flatMap (entryInsertions seg) (reverse (range 0 (length (seg .entries))))) nc
@@ -472,7 +473,7 @@ module _ (seg : Segment) where
   left x y z = if x then when z back else if y then there ∷ when z back else when z back
 
   module _ (core : seg .core ≡ true) (full : entryCount seg ≡ 0 → ⊥) where
-    insertions-core : insertions seg ≡ there ∷ back ∷ []
+    pub insertions-core : insertions seg ≡ there ∷ back ∷ []
     unfolding insertions coreInsertions entryCount
     insertions-core =
         ap (λ x. if x then coreInsertions seg else flatMap (entryInsertions seg) (reverse (range 0 (length (seg .entries))))) core
@@ -524,7 +525,7 @@ module _ (seg : Segment) where
 
   -- ---- a segment with no entries
 
-  core-none : seg .core ≡ true → entryCount seg ≡ 0 → insertions seg ≡ []
+  pub core-none : seg .core ≡ true → entryCount seg ≡ 0 → insertions seg ≡ []
   unfolding insertions coreInsertions entryCount
   core-none core h =
       ap (λ x. if x then coreInsertions seg else flatMap (entryInsertions seg) (reverse (range 0 (length (seg .entries))))) core

@@ -34,7 +34,7 @@ record-is s x y z h p q r =
     let e : s .cost / 256 ≡ s .cost / 2 ^ 8 % 2 ^ 8 = omega arith in
     cc
 
-record-length : (s : Solution) → length (recordOctets s) ≡ solutionSize
+pub record-length : (s : Solution) → length (recordOctets s) ≡ solutionSize
 unfolding recordOctets edgeBytes edgeOctets octets2 range flatMap
 record-length s = refl
 
@@ -45,7 +45,7 @@ pub solution-is : (c : List Edge) (s : Solution) (w n : ℕ) (es : List Solution
 unfolding solutionOf
 solution-is c s w n es e p q r = cc
 
-record-of : (c : List Edge) → length c ≤ maxEdges → recordOctets (solutionOf c) ≡ solutionOctets c
+pub record-of : (c : List Edge) → length c ≤ maxEdges → recordOctets (solutionOf c) ≡ solutionOctets c
 unfolding recordOctets edgeBytes edgeOctets octets2 range flatMap solutionOf solutionOctets padded noEdge edgeAt bit
 record-of [] h = refl
 record-of (e ∷ []) h = refl

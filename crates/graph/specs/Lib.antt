@@ -8,3 +8,4 @@ pub mod Search
 pub mod Pushed
 pub mod Identity
 pub mod Recorded
+pub mod Named

@@ -11,6 +11,10 @@ use Rattle.graph.specs.declared.edges.Link.{Link}
 abbrev pub endOf : Link → Vertex
 endOf l = Peering (l .local) (l .ingress) (l .peer) (l .interface)
 
+-- and from the other side
+abbrev pub farEndOf : Link → Vertex
+farEndOf l = Peering (l .peer) (l .interface) (l .local) (l .ingress)
+
 -- a peer of an entry of the link's AS has the link
 unfoldable pub samePeer : PeerEntry → Link → Bool
 samePeer x l = eqb (x .hop .ingress) (l .ingress) && eqb (x .interface) (l .interface) && sameAs (x .peer) (l .peer)

@@ -9,10 +9,12 @@ ghost use Rattle.spec.specs.Book.{verdict};
 ghost use Rattle.spec.specs.Records.{slots};
 ghost use Rattle.spec.specs.Answers.{listing};
 
+mod chains;
 mod edges;
 mod search;
 mod slots;
 
+pub use chains::chain_of;
 use spec::Edge;
 use spec::IsdAsn;
 use spec::Limits;

@@ -24,7 +24,7 @@ fn weight(e: Edge) -> u16
     e.weight as u16
 }
 
-fn edge(e: Edge) -> SolutionEdge
+pub(crate) fn edge(e: Edge) -> SolutionEdge
     ensures { λ r. ⌜ r ≡ solutionEdge e ⌝ }
 {
     SolutionEdge {
@@ -48,19 +48,19 @@ fn no_edge() -> SolutionEdge
 
 // ---- the record of a chain
 
-fn one(e: Edge) -> Solution
+pub(crate) fn one(e: Edge) -> Solution
     ensures { λ r. ⌜ r ≡ solutionOf (e ∷ []) ⌝ }
 {
     Solution::new(weight(e), 1, [edge(e), no_edge(), no_edge()])
 }
 
-fn two(e: Edge, f: Edge) -> Solution
+pub(crate) fn two(e: Edge, f: Edge) -> Solution
     ensures { λ r. ⌜ r ≡ solutionOf (e ∷ f ∷ []) ⌝ }
 {
     Solution::new(weight(e) + weight(f), 2, [edge(e), edge(f), no_edge()])
 }
 
-fn three(e: Edge, f: Edge, g: Edge) -> Solution
+pub(crate) fn three(e: Edge, f: Edge, g: Edge) -> Solution
     ensures { λ r. ⌜ r ≡ solutionOf (e ∷ f ∷ g ∷ []) ⌝ }
 {
     Solution::new(
@@ -70,7 +70,7 @@ fn three(e: Edge, f: Edge, g: Edge) -> Solution
     )
 }
 
-fn octets_of(s: Solution) -> [u8; Solution::SIZE]
+pub(crate) fn octets_of(s: Solution) -> [u8; Solution::SIZE]
     ensures { λ r. ⌜ r ≡ recordOctets s ⌝ }
 {
     let cost = s.cost;

@@ -32,12 +32,13 @@ use Rattle.spec.proofs.ReadBack.{GoodInterface, good-interfaces}
 use Rattle.octets.specs.Write.{written, zeroed}
 use Rattle.octets.proofs.Writing.{written-pair, written-length, written-within, written-next, zeroed-rest, zeroed-all}
 use Rattle.path.specs.declared.Part.the-variants.{Hops, Ases, Ids}
-use Rattle.path.specs.declared.Chain.{Chain}
-use Rattle.path.specs.declared.Chain.the-variants.{One, Two, Three, Stranger}
+use Rattle.graph.specs.declared.Chain.{Chain}
+use Rattle.graph.specs.declared.Chain.the-variants.{Refused, Stranger, One, Two, Three}
 use Rattle.path.specs.declared.record.Front.{Front}
 use Rattle.path.specs.Usable.{Usable}
 use Rattle.path.specs.Places.{Wrote}
-use Rattle.path.specs.Parts.{chainEdges, infoBytes, edgeBytes}
+use Rattle.graph.specs.Recorded.{chainEdges}
+use Rattle.path.specs.Parts.{infoBytes, edgeBytes}
 use Rattle.path.specs.Whole.{UsableChain, numberAt, numbersIn, someFrequent, frontBytes, Fronted}
 use Rattle.path.proofs.Writes.{wrote-join}
 use Rattle.path.proofs.Standing.{count-most}
@@ -105,6 +106,7 @@ edges-few (One e) = omega arith
 edges-few (Two e f) = omega arith
 edges-few (Three e f g) = omega arith
 edges-few Stranger = omega arith
+edges-few (Refused r) = omega arith
 
 pub record Lengths (b : List ℕ) (c : List Edge) : Type 0 where
   pub infos : length (flatMap (infoBytes b) c) ≡ infoSize * length c

@@ -1,18 +1,31 @@
 -- The edges of a chain, one after the other.
 -- Assumes nothing.
 use Prim.Native.Nat.{ℕ, _+_, min}
+use native.Mathlib.Omega.{arith}
+use denote.Enum.Declared.{tagOf}
+use types.Run.{OneOf}
+use mathlib.Core.Logic.{⊎-elim}
 use mathlib.Core.Path.{_≡_, refl, sym, ap, ap₂, _∙_, subst}
 use mathlib.Core.List.{List, [], _∷_, _++_, map, flatMap, append-nil, List·Memᴰ·head as head, List·Memᴰ·tail as tail}
 use Rattle.spec.specs.declared.Edge.{Edge}
 use Rattle.spec.specs.Assembly.{least}
-use Rattle.path.specs.declared.Chain.{Chain}
-use Rattle.path.specs.declared.Chain.the-variants.{One, Two, Three, Stranger}
+use Rattle.graph.proofs.Chain.{the-type}
+use Rattle.graph.specs.declared.Chain.{Chain}
+use Rattle.graph.specs.declared.Chain.the-variants.{Refused, Stranger, One, Two, Three}
 use Rattle.path.specs.Usable.{Usable}
 use Rattle.path.specs.Places.{Wrote}
-use Rattle.path.specs.Parts.{chainEdges}
+use Rattle.graph.specs.Recorded.{chainEdges}
 use Rattle.path.specs.Whole.{UsableChain}
 use Rattle.path.proofs.Writes.{wrote-none, wrote-join, wrote-as}
 use Rattle.path.proofs.Showing.{least-append}
+
+-- the last arm of a match: neither One nor Two nor Three
+pub no-edges : (chain : Chain) → OneOf (0 ∷ 1 ∷ []) (tagOf the-type chain) → chainEdges chain ≡ []
+no-edges (Refused r) h = refl
+no-edges Stranger h = refl
+no-edges (One e) h = absurd (⊎-elim (λ q. omega arith) (λ q. omega arith) h)
+no-edges (Two e f) h = absurd (⊎-elim (λ q. omega arith) (λ q. omega arith) h)
+no-edges (Three e f g) h = absurd (⊎-elim (λ q. omega arith) (λ q. omega arith) h)
 
 module _ (b : List ℕ) (chain : Chain) (u : UsableChain b chain) where
   pub of-one : {e : Edge} → chain ≡ One e → Usable b e
@@ -31,9 +44,9 @@ module _ (b : List ℕ) (chain : Chain) (u : UsableChain b chain) where
 -- ---- what is written of each edge
 
 module _ (h : Edge → List ℕ) (chain : Chain) where
-  pub all-none : chain ≡ Stranger → (d : List ℕ) (at : ℕ) → Wrote d at (flatMap h (chainEdges chain)) d at
+  pub all-none : OneOf (0 ∷ 1 ∷ []) (tagOf the-type chain) → (d : List ℕ) (at : ℕ) → Wrote d at (flatMap h (chainEdges chain)) d at
   unfolding flatMap
-  all-none q d at = wrote-as (ap (λ c. flatMap h (chainEdges c)) (sym q)) (wrote-none d at)
+  all-none q d at = wrote-as (ap (flatMap h) (sym (no-edges chain q))) (wrote-none d at)
 
   pub all-one : {e : Edge} → chain ≡ One e → {d : List ℕ} {at : ℕ} {d′ : List ℕ} {r : ℕ} → Wrote d at (h e) d′ r
       → Wrote d at (flatMap h (chainEdges chain)) d′ r
@@ -55,9 +68,9 @@ module _ (h : Edge → List ℕ) (chain : Chain) where
 
   -- ---- the least of all
 
-  pub least-none : chain ≡ Stranger → (x : ℕ) → x ≡ least x (flatMap h (chainEdges chain))
+  pub least-none : OneOf (0 ∷ 1 ∷ []) (tagOf the-type chain) → (x : ℕ) → x ≡ least x (flatMap h (chainEdges chain))
   unfolding flatMap least
-  least-none q x = ap (λ c. least x (flatMap h (chainEdges c))) (sym q)
+  least-none q x = ap (λ c. least x (flatMap h c)) (sym (no-edges chain q))
 
   pub least-one-edge : {e : Edge} → chain ≡ One e → (x y : ℕ) → y ≡ least x (h e) → y ≡ least x (flatMap h (chainEdges chain))
   unfolding flatMap
@@ -78,9 +91,9 @@ module _ (h : Edge → List ℕ) (chain : Chain) where
       ∙ ap (λ c. least x (flatMap h (chainEdges c))) (sym q)
 
 module _ (h : Edge → ℕ) (chain : Chain) where
-  pub soonest-none : chain ≡ Stranger → (x : ℕ) → x ≡ least x (map h (chainEdges chain))
+  pub soonest-none : OneOf (0 ∷ 1 ∷ []) (tagOf the-type chain) → (x : ℕ) → x ≡ least x (map h (chainEdges chain))
   unfolding least
-  soonest-none q x = ap (λ c. least x (map h (chainEdges c))) (sym q)
+  soonest-none q x = ap (λ c. least x (map h c)) (sym (no-edges chain q))
 
   pub soonest-one : {e : Edge} → chain ≡ One e → (x y : ℕ) → y ≡ min x (h e) → y ≡ least x (map h (chainEdges chain))
   unfolding least

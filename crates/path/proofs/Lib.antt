@@ -7,3 +7,4 @@ pub mod Walking
 pub mod Chaining
 pub mod Repeats
 pub mod Assembling
+pub mod Answering

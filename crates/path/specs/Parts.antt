@@ -16,14 +16,6 @@ use Rattle.spec.specs.Assembly.{least, unitsOf, mtusAt, isPeerEdge, isPeerHop, 
 use Rattle.spec.specs.Records.{bit, infoOctets, hopOctets, asOctets, interfaceAsOctets, interfaceIdOctets}
 use Rattle.path.specs.declared.Part.{Part}
 use Rattle.path.specs.declared.Part.the-variants.{Hops, Ases, Ids}
-use Rattle.path.specs.declared.Chain.{Chain}
-use Rattle.path.specs.declared.Chain.the-variants.{One, Two, Three, Stranger}
-
-abbrev pub chainEdges : Chain → List Edge
-chainEdges (One e) = e ∷ []
-chainEdges (Two e f) = e ∷ f ∷ []
-chainEdges (Three e f g) = e ∷ f ∷ g ∷ []
-chainEdges Stranger = []
 
 -- the MTU of the link over which entry m is entered, if it counts
 unfoldable pub linkMtus : Segment → Edge → ℕ → List ℕ

@@ -10,12 +10,13 @@ use Rattle.spec.specs.declared.Edge.{Edge}
 use Rattle.spec.specs.Limits.{pathHeadSize}
 use Rattle.spec.specs.Basics.{any, filter, range}
 use Rattle.spec.specs.Octets.{be64}
-use Rattle.path.specs.declared.Chain.{Chain}
+use Rattle.graph.specs.declared.Chain.{Chain}
+use Rattle.graph.specs.Recorded.{chainEdges}
 use Rattle.path.specs.declared.Part.the-variants.{Hops, Ases}
 use Rattle.path.specs.declared.record.Front.{Front}
 use Rattle.path.specs.Usable.{Usable}
 use Rattle.path.specs.Places.{Wrote}
-use Rattle.path.specs.Parts.{chainEdges, infoBytes, edgeBytes}
+use Rattle.path.specs.Parts.{infoBytes, edgeBytes}
 
 pub record UsableChain (b : List ℕ) (chain : Chain) : Type 0 where
   pub edges : (e : Edge) → Mem e (chainEdges chain) → Usable b e

@@ -9,20 +9,15 @@ ghost use mathlib.Core.Path.{_≡_};
 ghost use Prim.Native.Nat.{_≤_};
 ghost use lib.ListN.{length};
 ghost use Rattle.spec.specs.Limits.{pathSize};
-ghost use Rattle.spec.specs.Answers.{pathAnswer};
+ghost use Rattle.spec.specs.Answers.{pathAnswer, assembly};
 ghost use Rattle.path.specs.Usable.{Ready};
-ghost use Rattle.path.specs.Parts.{chainEdges};
+ghost use Rattle.graph.specs.Recorded.{chainEdges};
 ghost use Rattle.path.specs.Whole.{UsableChain};
-use spec::Edge;
+use graph::Chain;
+use spec::IsdAsn;
+use spec::Path;
 use spec::PathAnswer;
-
-// The edges of a chain, in order; a record that is of no chain is a stranger's.
-pub enum Chain {
-    One(Edge),
-    Two(Edge, Edge),
-    Three(Edge, Edge, Edge),
-    Stranger,
-}
+use spec::Refusal;
 
 // The parts of a path's record that go by entries.
 pub enum Part {
@@ -56,4 +51,26 @@ pub(crate) fn build(
     }
     record::put_path(book, table, chain, out, front);
     PathAnswer::Path
+}
+
+// Assembles the path of the chain from `src` to `dst` that the record `given` is of, in `out`: its record, or
+// zeros where it is Loop or Bare, or a refusal and zeros.
+pub fn assemble(src: IsdAsn, dst: IsdAsn, book: &[u8], given: &[u8], out: &mut [u8]) -> PathAnswer
+    ensures { λ r. ⌜ (r, now (out .exit)) ≡ assembly (now (book .entry)) src dst (now (given .entry)) (length (now (out .entry))) ⌝ }
+{
+    let mut table = [0u16; places::PLACES];
+    let chain = graph::chain_of(src, dst, book, given, &mut table);
+    if let Chain::Refused(r) = chain {
+        octets::zero(out, 0);
+        return PathAnswer::Refused(r);
+    }
+    if out.len() < Path::SIZE {
+        octets::zero(out, 0);
+        return PathAnswer::Refused(Refusal::Small);
+    }
+    if let Chain::Stranger = chain {
+        octets::zero(out, 0);
+        return PathAnswer::Refused(Refusal::Stranger);
+    }
+    build(book, &table, chain, out)
 }

@@ -9,15 +9,16 @@ ghost use Rattle.spec.specs.Octets.{octets2, octets4, octets8};
 ghost use Rattle.spec.specs.Assembly.{least, mtusOn, expiryOn, combinedPath};
 ghost use Rattle.spec.specs.Records.{pathHead, pathHeadOctets, pathOctets};
 ghost use Rattle.octets.specs.Write.{written};
+ghost use Rattle.graph.specs.Recorded.{chainEdges};
 ghost use Rattle.path.specs.Usable.{Ready, Usable};
 ghost use Rattle.path.specs.Places.{Wrote};
-ghost use Rattle.path.specs.Parts.{chainEdges, infoBytes, edgeBytes};
+ghost use Rattle.path.specs.Parts.{infoBytes, edgeBytes};
 ghost use Rattle.path.specs.Whole.{UsableChain, Fronted};
-use crate::Chain;
 use crate::Part;
 use crate::edge;
 use crate::entry;
 use crate::places;
+use graph::Chain;
 use spec::Edge;
 use spec::Path;
 
@@ -47,7 +48,7 @@ pub(crate) fn put_infos(
             let last = edge::put_info(book, table, f, out, next);
             edge::put_info(book, table, g, out, last)
         }
-        Chain::Stranger => at,
+        _ => at,
     }
 }
 
@@ -75,7 +76,7 @@ pub(crate) fn put_parts(
             let last = edge::put_part(book, table, f, part, out, next);
             edge::put_part(book, table, g, part, out, last)
         }
-        Chain::Stranger => at,
+        _ => at,
     }
 }
 
@@ -92,7 +93,7 @@ pub(crate) fn mtu(book: &[u8], table: &[u16; places::PLACES], chain: Chain) -> u
             let x = edge::mtu(book, table, e, 65535);
             edge::mtu(book, table, g, edge::mtu(book, table, f, x))
         }
-        Chain::Stranger => 65535,
+        _ => 65535,
     }
 }
 
@@ -122,7 +123,7 @@ pub(crate) fn expiry(book: &[u8], table: &[u16; places::PLACES], chain: Chain) -
             let x = sooner(book, table, e, edge::LAST);
             sooner(book, table, g, sooner(book, table, f, x))
         }
-        Chain::Stranger => edge::LAST,
+        _ => edge::LAST,
     }
 }
 

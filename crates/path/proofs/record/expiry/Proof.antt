@@ -33,7 +33,7 @@ returns-3 : tie.Need-returns-3
 returns-3 c = soonest-three _ _ (c .before .before .before .before .chain3 .given .1) _ _ _ _ (c .before .before .sooner4 .ensures) (c .before .sooner5 .ensures) (c .sooner6 .ensures)
 
 returns-4 : tie.Need-returns-4
-returns-4 c = soonest-none _ _ (c .enum-told .given .1) _
+returns-4 c = soonest-none _ (c .before .before .args .chain) (c .match .keys4) _
 
 pub expiry-spec : {M : Type 1} → statement M
 expiry-spec =
@@ -48,7 +48,6 @@ expiry-spec =
     sooner-requires-4
     sooner-requires-5
     sooner-requires-6
-    (λ c. search needs)
     returns
     returns-2
     returns-3

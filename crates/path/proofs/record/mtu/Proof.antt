@@ -33,7 +33,7 @@ returns-3 : tie.Need-returns-3
 returns-3 c = least-three-edges _ _ (c .before .before .before .before .chain3 .given .1) _ _ _ _ (c .before .before .mtu4 .ensures) (c .before .mtu5 .ensures) (c .mtu6 .ensures)
 
 returns-4 : tie.Need-returns-4
-returns-4 c = least-none _ _ (c .enum-told .given .1) _
+returns-4 c = least-none _ (c .before .before .args .chain) (c .match .keys4) _
 
 pub mtu-spec : {M : Type 1} → statement M
 mtu-spec =
@@ -48,7 +48,6 @@ mtu-spec =
     mtu-requires-4
     mtu-requires-5
     mtu-requires-6
-    (λ c. search needs)
     returns
     returns-2
     returns-3

@@ -34,7 +34,7 @@ returns-3 : tie.Need-returns-3
 returns-3 c = (all-three _ _ (c .before .before .before .before .before .before .before .before .before .before .before .before .before .chain3 .given .1) (c .before .before .before .before .before .before .before .before .before .before .put-info4 .ensures .0) (c .before .before .before .before .before .before .put-info5 .ensures .0) (c .before .before .put-info6 .ensures .0), omega arith)
 
 returns-4 : tie.Need-returns-4
-returns-4 c = (all-none _ _ (c .enum-told .given .1) _ _, omega arith)
+returns-4 c = (all-none _ (c .before .before .before .args .chain) (c .match .keys4) _ _, omega arith)
 
 pub put-infos-spec : {M : Type 1} → statement M
 put-infos-spec =
@@ -49,7 +49,6 @@ put-infos-spec =
     put-info-requires-4
     put-info-requires-5
     put-info-requires-6
-    (λ c. search needs)
     (λ c. search needs)
     returns
     (λ c. search needs)

@@ -1,0 +1,66 @@
+-- An answer as the number that is returned. A count is at most that of the slots, so that it is told from a refusal.
+-- Assumes nothing.
+use Prim.Native.Nat.{ℕ, _+_, _≤_}
+use native.Mathlib.Omega.{arith}
+use mathlib.Core.Path.{_≡_, refl, sym, ap, _∙_}
+use mathlib.Core.Bool.{Bool, true, false}
+use mathlib.Core.List.{List, flatMap}
+use lib.ListN.{length}
+use lib.Dec.{ltb}
+use borrow.Author.Tests.{ltb-false}
+use Rattle.spec.specs.declared.Edge.{Edge}
+use Rattle.spec.specs.declared.Refusal.{Refusal}
+use Rattle.spec.specs.declared.Refusal.the-variants.{Full}
+use Rattle.spec.specs.declared.Verdict.{Verdict}
+use Rattle.spec.specs.declared.Verdict.the-variants.{Accepted, Refused as RefusedBook}
+use Rattle.spec.specs.declared.ListAnswer.{ListAnswer}
+use Rattle.spec.specs.declared.ListAnswer.the-variants.{Count, Refused as RefusedList}
+use Rattle.spec.specs.declared.PathAnswer.{PathAnswer}
+use Rattle.spec.specs.Limits.{maxSlots}
+use Rattle.spec.specs.Basics.{if_then_else_, padded}
+use Rattle.spec.specs.Book.{verdict}
+use Rattle.spec.specs.Order.{solutions}
+use Rattle.spec.specs.Records.{solutionOctets, slots}
+use Rattle.spec.specs.Answers.{Listed, Assembled, refusals, refusalNumber, listNumber, pathNumber, refusedList, listingOf, listingOn, listing, assembly}
+use Rattle.sha256.specs.Message.{sha256}
+use Rattle.graph.proofs.ListLaws.{slots-most}
+use Rattle.combinator.specs.Exports.{isdAsn, Returned, numberedList, numberedPath, listReturned, pathReturned}
+
+-- ---- a count
+
+module _ (bytes : ℕ) (found : List (List Edge)) (n : ℕ) where
+  counted : (t : Bool) → ltb (slots bytes) (length found) ≡ t
+      → (if t then refusedList bytes Full else (Count (length found), padded bytes (flatMap solutionOctets found))) .0 ≡ Count n → n ≤ maxSlots
+  unfolding refusedList
+  counted true q e = let z : _≡_ {A = ℕ} 0 1 = cc in absurd (omega arith)
+  counted false q e =
+      let k : length found ≡ n = cc in
+      omega (arith, ltb-false (slots bytes) (length found) q, slots-most bytes)
+
+  on-verdict : (v : Verdict) → listingOn v bytes found .0 ≡ Count n → n ≤ maxSlots
+  unfolding listingOf refusedList
+  on-verdict Accepted e = counted (ltb (slots bytes) (length found)) refl e
+  on-verdict (RefusedBook r) e = let z : _≡_ {A = ℕ} 0 1 = cc in absurd (omega arith)
+
+-- ---- listing's answer and output, as the code has them
+
+module _ (b : List ℕ) (src dst bytes : ℕ) (a : ListAnswer) (out : List ℕ) (e : _≡_ {A = Listed} (a, out) (listing sha256 b (isdAsn src) (isdAsn dst) bytes)) where
+  pub count-most : (n : ℕ) → a ≡ Count n → n ≤ maxSlots
+  unfolding listing
+  count-most n q = on-verdict bytes (solutions sha256 b (isdAsn src) (isdAsn dst)) n (verdict b) (sym (ap (λ (x : Listed). x .0) e) ∙ q)
+
+  pub list-count : (n : ℕ) → a ≡ Count n → _≡_ {A = Returned} (n, out) (listReturned b src dst bytes)
+  unfolding listReturned numberedList
+  list-count n q = ap (λ x. (listNumber x, out)) (sym q) ∙ ap numberedList e
+
+  pub list-refusal : (r : Refusal) (n : ℕ) → a ≡ RefusedList r → n ≡ refusalNumber r → _≡_ {A = Returned} (refusals + n, out) (listReturned b src dst bytes)
+  unfolding listReturned numberedList
+  list-refusal r n q k = ap (λ m. (refusals + m, out)) k ∙ ap (λ x. (listNumber x, out)) (sym q) ∙ ap numberedList e
+
+-- ---- assembly's
+
+module _ (b : List ℕ) (src dst : ℕ) (given : List ℕ) (bytes : ℕ) (a : PathAnswer) (out : List ℕ)
+    (e : _≡_ {A = Assembled} (a, out) (assembly b (isdAsn src) (isdAsn dst) given bytes)) where
+  pub path-number : (x : PathAnswer) (n : ℕ) → a ≡ x → n ≡ pathNumber x → _≡_ {A = Returned} (n, out) (pathReturned b src dst given bytes)
+  unfolding pathReturned numberedPath
+  path-number x n q k = ap (λ m. (m, out)) k ∙ ap (λ y. (pathNumber y, out)) (sym q) ∙ ap numberedPath e

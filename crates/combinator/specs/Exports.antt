@@ -1,0 +1,28 @@
+-- What the exported functions return, and the bytes that the output then holds: listing and assembly in document 01's numbers. ASes come as numbers.
+-- Assumes nothing.
+use Prim.Native.Nat.{ℕ}
+use mathlib.Core.List.{List}
+use Rattle.sha256.specs.Message.{sha256}
+use Rattle.spec.specs.declared.IsdAsn.{IsdAsn}
+use Rattle.spec.specs.Answers.{Listed, Assembled, listNumber, pathNumber, listing, assembly}
+
+abbrev pub isdAsn : ℕ → IsdAsn
+isdAsn n = record { 0 = n }
+
+-- a number, and the output's bytes
+abbrev pub Returned : Type 0
+Returned = ℕ × List ℕ
+
+unfoldable pub numberedList : Listed → Returned
+numberedList l = (listNumber (l .0), l .1)
+
+unfoldable pub numberedPath : Assembled → Returned
+numberedPath p = (pathNumber (p .0), p .1)
+
+-- of `combinator_list`; `bytes` is the output's length
+unfoldable pub listReturned : List ℕ → ℕ → ℕ → ℕ → Returned
+listReturned book src dst bytes = numberedList (listing sha256 book (isdAsn src) (isdAsn dst) bytes)
+
+-- of `combinator_assemble`
+unfoldable pub pathReturned : List ℕ → ℕ → ℕ → List ℕ → ℕ → Returned
+pathReturned book src dst given bytes = numberedPath (assembly book (isdAsn src) (isdAsn dst) given bytes)

@@ -1,0 +1,51 @@
+-- Past the segments, and in a segment that an earlier one equals, nothing is stored.
+-- Assumes nothing.
+use mathlib.Core.Path.{sym, _∙_}
+use native.Mathlib.Omega.{arith}
+use borrow.Author.Tests.{not-true, not-false}
+use Rattle.graph.specs.Lookup.{foundEdges}
+use Rattle.graph.proofs.SearchBounds.{counted}
+use Rattle.graph.proofs.NamedPlaces.{identified-past, identified-first, identified-repeat}
+use borrow.Author.Needs.{needs}
+use Rattle.graph.proofs.chains.edge_of.Statement.{statement}
+use Rattle.graph.proofs.chains.edge_of.Tie as tie
+
+add-if1 : tie.Need-add-if1
+add-if1 c =
+    let z = counted _ (c .before .before .before .pre .ok) _ (c .before .sizes .ensures) in
+    omega arith
+
+returns : tie.Need-returns
+unfolding foundEdges
+returns c =
+    let z = counted _ (c .before .before .before .before .before .pre .ok) _ (c .before .before .before .sizes .ensures) in
+    sym (identified-past _ _ (omega arith))
+
+returns-2 : tie.Need-returns-2
+unfolding foundEdges
+returns-2 c =
+    let z = counted _ (c .before .before .before .before .before .before .before .pre .ok) _ (c .before .before .before .before .before .sizes .ensures) in
+    sym (identified-repeat _ _ (omega arith) (sym (c .before .is-first .ensures) ∙ not-true _ (c .if2 .taken)))
+
+stored-edge-requires : tie.Need-stored-edge-requires
+stored-edge-requires c κs =
+    let z = counted _ (c .before .before .before .before .before .before .before .pre .ok) _ (c .before .before .before .before .before .sizes .ensures) in
+    (c .before .before .before .before .before .before .before .pre, omega arith)
+
+returns-3 : tie.Need-returns-3
+returns-3 c =
+    let z = counted _ (c .before .before .before .before .before .before .before .before .pre .ok) _ (c .before .before .before .before .before .before .sizes .ensures) in
+    c .stored-edge .ensures ∙ sym (identified-first _ _ (omega arith) (sym (c .before .before .is-first .ensures) ∙ not-false _ (c .before .if2 .left)))
+
+pub edge-of-spec : {M : Type 1} → statement M
+edge-of-spec =
+    tie.close
+    (tie.spec
+    (λ c κs. search needs)
+    add-if1
+    (λ c. search needs)
+    returns
+    (λ c κs. search needs)
+    returns-2
+    stored-edge-requires
+    returns-3)
