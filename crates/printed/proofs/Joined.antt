@@ -10,7 +10,7 @@ use mathlib.Core.List.{List, [], _∷_, _++_, map, flatMap, append-nil, List·Me
 use lib.ListN.{length, take, drop, replicate, length-map, length-drop}
 use lib.Seq.{take-at, take-all, length-take-le, drop-append-add}
 use lib.Dec.{ltb}
-use borrow.Author.Tests.{lt-ltb, le-ltb}
+use borrow.Author.Tests.{lt-ltb, le-ltb, ltb-false}
 use Rattle.sha256.specs.Message.{sha256}
 use Rattle.spec.specs.declared.IsdAsn.{IsdAsn}
 use Rattle.spec.specs.declared.Edge.{Edge}
@@ -33,11 +33,11 @@ use Rattle.spec.proofs.Membership.{map-mem}
 use Rattle.spec.proofs.ChainLaws.{allowed-length}
 use Rattle.spec.proofs.OnceLaws.{solutions-sound}
 use Rattle.spec.proofs.ByteLaws.{read-all}
-use Rattle.spec.proofs.LengthLaws.{solution-length}
+use Rattle.spec.proofs.LengthLaws.{solution-length, slots-fit}
 use Rattle.spec.proofs.ReadBack.{flat-map}
 use Rattle.spec.proofs.PrintedLaws.{printed-short, printed-refused, printed-count}
 use Rattle.order.specs.Records.{recordFrom, recordAt}
-use Rattle.printed.specs.Pieces.{solutionText, slotText, slotHasPath, pathsTo, listed, firstBy, firstLine, countOf, pieces}
+use Rattle.printed.specs.Pieces.{solutionText, slotText, slotHasPath, pathsTo, listed, countsLine, firstBy, firstLine, countOf, pieces}
 use Rattle.printed.proofs.Solutions.{text-chain}
 
 -- ---- the slots hold the records
@@ -130,6 +130,7 @@ module _ (input : List ℕ) where
   -- what listing leaves where it counts
   record Counted (bytes n : ℕ) : Type 0 where
     ok : verdict (drop 16 input) ≡ Accepted
+    room : solutionSize * n ≤ bytes
     count : n ≡ length (solutions sha256 (drop 16 input) (isdAsnAt input 0) (isdAsnAt input 8))
     records : listing sha256 (drop 16 input) (isdAsnAt input 0) (isdAsnAt input 8) bytes .1
         ≡ padded bytes (flatMap solutionOctets (solutions sha256 (drop 16 input) (isdAsnAt input 0) (isdAsnAt input 8)))
@@ -141,13 +142,21 @@ module _ (input : List ℕ) where
       listed-by : Bool → Listed
       listed-by t = if t then (RefusedList Full, replicate bytes 0) else (Count (length found), padded bytes (flatMap solutionOctets found))
 
-      of : verdict book ≡ Accepted → (t : Bool) → listing sha256 book src dst bytes ≡ listed-by t → listed-by t .0 ≡ Count n → Counted bytes n
-      of ok true e p = let z : _≡_ {A = ℕ} 0 1 = cc in absurd (omega arith)
-      of ok false e p = record { ok = ok; count = cc; records = ap (λ (x : Listed). x .1) e }
+      of : verdict book ≡ Accepted → (t : Bool) → ltb (slots bytes) (length found) ≡ t → listing sha256 book src dst bytes ≡ listed-by t
+          → listed-by t .0 ≡ Count n → Counted bytes n
+      of ok true l e p = let z : _≡_ {A = ℕ} 0 1 = cc in absurd (omega arith)
+      of ok false l e p =
+          let c : n ≡ length found = cc in
+          record {
+            ok = ok;
+            room = omega (arith, ltb-false (slots bytes) (length found) l, slots-fit bytes);
+            count = c;
+            records = ap (λ (x : Listed). x .1) e;
+          }
 
       on : (v : Verdict) → verdict book ≡ v → listingOn v bytes found .0 ≡ Count n → Counted bytes n
       on (RefusedBook s) e p = let z : _≡_ {A = ℕ} 0 1 = cc in absurd (omega arith)
-      on Accepted e p = of e (ltb (slots bytes) (length found)) (ap (λ v. listingOn v bytes found) e) p
+      on Accepted e p = of e (ltb (slots bytes) (length found)) refl (ap (λ v. listingOn v bytes found) e) p
 
   module _ (enough : 16 ≤ length input) where
     listed-is : (bytes : ℕ) → listed input bytes ≡ listing sha256 (drop 16 input) (isdAsnAt input 0) (isdAsnAt input 8) bytes
@@ -157,7 +166,7 @@ module _ (input : List ℕ) where
 
     by-answer : (a : ListAnswer) (records : List ℕ) → listing sha256 (drop 16 input) (isdAsnAt input 0) (isdAsnAt input 8) (maxSlots * solutionSize) ≡ (a, records)
         → firstBy input a records ++ flatMap (slotText input records) (range 0 (countOf a)) ≡ printed sha256 input
-    unfolding range flatMap padded
+    unfolding range flatMap padded countsLine
     by-answer (RefusedList r) records q =
         append-nil (refusedLine r) ∙ sym (printed-refused sha256 input enough r (ap (λ (x : Listed). x .0) q))
     by-answer (Count n) records q =
@@ -170,6 +179,20 @@ module _ (input : List ℕ) where
         (ap (pathsTo input records) (w .count) ∙ paths-all records found held)
         (ap (λ m. flatMap (slotText input records) (range 0 m)) (w .count) ∙ lines-joined (w .ok) records found chain 0 held)
         ∙ sym (printed-count sha256 input enough n (ap (λ (x : Listed). x .0) q))
+
+  -- where listing counts, the input has its ends, and the records fit
+  pub counted-room : (bytes n : ℕ) → listed input bytes .0 ≡ Count n → (16 ≤ length input) × (solutionSize * n ≤ bytes)
+  unfolding listed refusedList
+  counted-room bytes n q = go (decLe 16 (length input))
+    where
+      answered : Bool → ListAnswer
+      answered t = (if t then (RefusedList Cut, replicate bytes 0) else listing sha256 book src dst bytes) .0
+
+      go : Dec (16 ≤ length input) → (16 ≤ length input) × (solutionSize * n ≤ bytes)
+      go (yes h) = (h, counted bytes n (sym (ap answered (le-ltb (length input) 16 h)) ∙ q) .room)
+      go (no h) =
+          let e : RefusedList Cut ≡ Count n = sym (ap answered (lt-ltb (length input) 16 (omega arith))) ∙ q in
+          let z : _≡_ {A = ℕ} 0 1 = cc in absurd (omega arith)
 
   abbrev joined : Listed → List ℕ
   joined x = firstBy input (x .0) (x .1) ++ flatMap (slotText input (x .1)) (range 0 (countOf (x .0)))

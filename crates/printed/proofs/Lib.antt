@@ -4,3 +4,4 @@ pub mod Rows
 pub mod Solutions
 pub mod Lengths
 pub mod Joined
+pub mod Inputs

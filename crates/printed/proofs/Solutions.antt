@@ -37,6 +37,8 @@ use Rattle.spec.proofs.ByteLaws.{cost-back}
 use Rattle.spec.proofs.BookLaws.{accepted}
 use Rattle.spec.proofs.Bounds.{chain-bounds}
 use Rattle.spec.proofs.ReadBack.{PathRead, path-read, flat-map}
+use Rattle.path.specs.Places.{Wrote}
+use Rattle.path.proofs.Writes.{wrote-none, wrote-join, wrote-as}
 use Rattle.printed.specs.Lines.{fieldsLine, infoText, interfaceText, linesTo, pathText}
 use Rattle.printed.specs.Pieces.{startText, textBy, linesOfRecord, linesOn, solutionText}
 
@@ -175,3 +177,25 @@ module _ (b : List ℕ) (bytes : Bytes b) (src dst : IsdAsn) (number : ℕ) wher
       on (RefusedBook r) q =
           text-refused b src dst number r q given
           ∙ sym (ap (λ (a : Assembled). textBy (a .0) (a .1) given number) (assembly-refused b src dst pathSize given r q))
+
+-- ---- what the code leaves, in the terms of the contracts
+
+module _ (answer : PathAnswer) (p given : List ℕ) (number : ℕ) {d : List ℕ} {d′ : List ℕ} {at : ℕ} {d″ : List ℕ} {r : ℕ} where
+  pub wrote-path : answer ≡ Path → Wrote d 0 (startText given number) d′ at → Wrote d′ at (pathText p) d″ r → Wrote d 0 (textBy answer p given number) d″ r
+  wrote-path q v w = wrote-as (ap (λ a. textBy a p given number) (sym q)) (wrote-join v w)
+
+  pub wrote-loop : answer ≡ Loop → Wrote d 0 (startText given number) d′ at → Wrote d′ at (ascii " loop" ++ newline) d″ r → Wrote d 0 (textBy answer p given number) d″ r
+  wrote-loop q v w = wrote-as (ap (λ a. textBy a p given number) (sym q)) (wrote-join v w)
+
+  pub wrote-bare : answer ≡ Bare → Wrote d 0 (startText given number) d′ at → Wrote d′ at (ascii " bare" ++ newline) d″ r → Wrote d 0 (textBy answer p given number) d″ r
+  wrote-bare q v w = wrote-as (ap (λ a. textBy a p given number) (sym q)) (wrote-join v w)
+
+pub wrote-refused : (answer : PathAnswer) (p given : List ℕ) (number : ℕ) (d : List ℕ) (r : Refusal) → answer ≡ RefusedPath r → Wrote d 0 (textBy answer p given number) d 0
+wrote-refused answer p given number d r q = wrote-as (ap (λ a. textBy a p given number) (sym q)) (wrote-none d 0)
+
+pub wrote-solution : (b : List ℕ) → Bytes b → (src dst : IsdAsn) (given : List ℕ) (number n : ℕ) (answer : PathAnswer) (p : List ℕ)
+    → (answer, p) ≡ assembly b src dst given n → n ≡ pathSize
+    → {d d′ : List ℕ} {r : ℕ} → Wrote d 0 (textBy answer p given number) d′ r → Wrote d 0 (solutionText b src dst given number) d′ r
+wrote-solution b bytes src dst given number n answer p q e w =
+    wrote-as
+    (ap (λ (a : Assembled). textBy (a .0) (a .1) given number) (q ∙ ap (assembly b src dst given) e) ∙ sym (solution-text b bytes src dst number given)) w

@@ -65,6 +65,10 @@ infoLineSize = 5 + 1 + 1 + 4 + 1 + 10 + 1
 abbrev pub interfaceLineSize : ℕ
 interfaceLineSize = 3 + 16 + 1 + 5 + 1
 
+-- the counts of solutions and of those with a path
+abbrev pub firstLineSize : ℕ
+firstLineSize = (10 + 20) + (7 + 20) + 1
+
 -- number, cost, segments, mtu, expiry, hops
 abbrev pub solutionLineSize : ℕ
 solutionLineSize = 20 + (6 + 5) + (10 + 1) + (5 + 5) + (8 + 10) + (6 + 2) + 1
@@ -72,6 +76,11 @@ solutionLineSize = 20 + (6 + 5) + (10 + 1) + (5 + 5) + (8 + 10) + (6 + 2) + 1
 -- the longest solution, 2644: an info for each edge, two interfaces for each entry
 abbrev pub solutionTextSize : ℕ
 solutionTextSize = solutionLineSize + maxEdges * infoLineSize + maxEdges * maxEntries * 2 * interfaceLineSize
+
+-- ---- the first line
+
+unfoldable pub countsLine : ℕ → ℕ → List ℕ
+countsLine solutions paths = item "solutions " solutions ++ item " paths " paths ++ newline
 
 -- ---- an input: source 8, destination 8, then the book
 
@@ -96,7 +105,7 @@ module _ (input : List ℕ) where
 
   -- the first line, for what listing answered
   abbrev pub firstBy : ListAnswer → List ℕ → List ℕ
-  firstBy (Count n) records = item "solutions " n ++ item " paths " (pathsTo records n) ++ newline
+  firstBy (Count n) records = countsLine n (pathsTo records n)
   firstBy (RefusedList r) records = refusedLine r
 
   unfoldable pub firstLine : ℕ → List ℕ
