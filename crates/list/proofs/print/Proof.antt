@@ -2,6 +2,7 @@
 -- Assumes nothing.
 use native.Mathlib.Omega.{arith}
 use mathlib.Core.Path.{sym}
+use Rattle.list.proofs.Fronts.{whole-long}
 use borrow.Author.Needs.{needs}
 use Rattle.list.proofs.print.Statement.{statement}
 use Rattle.list.proofs.print.Tie as tie
@@ -16,7 +17,14 @@ slice-aggregate-print-slots : tie.Need-slice-aggregate-print-slots
 slice-aggregate-print-slots c = omega (arith, c .before .before .print-first .kept .1 .0, c .before .before .before .before .large-buffer .ensures)
 
 print-slots-requires : tie.Need-print-slots-requires
-print-slots-requires c κs = (c .before .before .print-first .ensures .1, c .before .before .print-first .ensures .0)
+print-slots-requires c κs = (c .before .before .print-first .ensures .0 .1, c .before .before .print-first .ensures .0 .0)
+
+add-result : tie.Need-add-result
+add-result c = omega (arith, c .before .print-slots .ensures .1, c .before .before .before .before .print-first .ensures .1 .1)
+
+returns : tie.Need-returns
+returns c =
+    omega (arith, c .before .before .before .before .print-first .ensures .1 .0, c .before .print-slots .ensures .0, whole-long (c .before .before .before .before .before .before .before .before .args .input .now) (c .before .before .before .before .print-first .last .1 .0) (c .before .before .before .before .print-first .ensures .0 .1) (c .before .before .before .before .print-first .result .solutions) (c .before .before .before .before .print-first .ensures .0 .0))
 
 pub print-spec : {M : Type 1} → statement M
 print-spec =
@@ -27,4 +35,5 @@ print-spec =
     print-first-requires
     slice-aggregate-print-slots
     print-slots-requires
-    (λ c. search needs))
+    add-result
+    returns)

@@ -1,7 +1,8 @@
 -- `print_slot` meets its contract.
 -- Assumes nothing.
 use native.Mathlib.Omega.{arith}
-use mathlib.Core.Path.{sym}
+use mathlib.Core.Path.{sym, ap, _∙_}
+use lib.ListN.{length}
 use lib.Seq.{length-take-le}
 use Rattle.list.proofs.Fronts.{wrote-front}
 use borrow.Author.Needs.{needs}
@@ -19,6 +20,11 @@ write-slot-requires : tie.Need-write-slot-requires
 write-slot-requires c κs =
     (c .before .before .before .before .before .before .pre .0, (c .before .before .before .before .before .before .pre .1, wrote-front _ _ _ _ (c .before .before .solution-lines .ensures .0) (omega (arith, c .before .before .solution-lines .ensures .1))))
 
+returns : tie.Need-returns
+returns c =
+    let e = c .write-slot .ensures ∙ ap length (wrote-front _ _ _ _ (c .before .before .before .solution-lines .ensures .0) (omega (arith, c .before .before .before .solution-lines .ensures .1))) in
+    (e, omega (arith, e, c .before .before .before .solution-lines .ensures .0 .end, c .before .before .before .solution-lines .ensures .1))
+
 pub print-slot-spec : {M : Type 1} → statement M
 print-slot-spec =
     tie.close
@@ -28,4 +34,4 @@ print-slot-spec =
     array-share-prefix-text
     slice-aggregate-write-slot
     write-slot-requires
-    (λ c. search needs))
+    returns)
