@@ -1,0 +1,26 @@
+-- `interface` meets its contract.
+-- Assumes nothing.
+use Rattle.spec.specs.Records.{recordInterface}
+use borrow.Author.Needs.{needs}
+use Rattle.printed.proofs.reading.interface.Statement.{statement}
+use Rattle.printed.proofs.reading.interface.Tie as tie
+
+returns : tie.Need-returns
+unfolding recordInterface
+returns c = cc
+
+pub interface-spec : {M : Type 1} → statement M
+interface-spec =
+    tie.close
+    (tie.spec
+    (λ c κs. search needs)
+    (λ c κs. search needs)
+    (λ c. search needs)
+    (λ c. search needs)
+    (λ c κs. search needs)
+    (λ c κs. search needs)
+    (λ c κs. search needs)
+    (λ c. search needs)
+    (λ c. search needs)
+    (λ c κs. search needs)
+    returns)

@@ -1,0 +1,66 @@
+// The printed list, piece by piece, in a lent buffer: the first line, then the lines of each solution.
+// `proofs/Joined` says that the pieces, one after the other, are the list.
+ghost use mathlib.Core.Path.{_≡_};
+ghost use Prim.Native.Nat.{_≤_};
+ghost use lib.ListN.{length};
+ghost use Rattle.path.specs.Places.{Wrote};
+ghost use Rattle.printed.specs.Pieces.{slotText, solutionTextSize};
+ghost use Rattle.printed.specs.Opened.{Opened};
+
+mod first;
+mod lines;
+mod reading;
+mod slots;
+mod solution;
+mod text;
+
+use spec::ListAnswer;
+use spec::Solution;
+
+// The longest piece.
+pub const TEXT: usize = 2644;
+
+// How long the first line is, and how many solutions follow it.
+pub struct Opening {
+    pub length: usize,
+    pub solutions: usize,
+}
+
+// Lists the solutions of an input (source 8, destination 8, then the book) into `records`, and writes the
+// list's first line into `out`: their count and that of the paths, or a refusal.
+pub fn first_line(input: &[u8], records: &mut [u8], out: &mut [u8]) -> Opening
+    ensures { λ r. ⌜ Opened (now (input .entry)) (length (now (records .entry))) (now (records .exit)) (now (out .entry)) (now (out .exit)) r ⌝ }
+{
+    let answer = slots::list(input, records);
+    match answer {
+        ListAnswer::Count(n) => {
+            let paths = slots::count_paths(input, records, n);
+            let length = first::counts_line(out, n as u64, paths as u64);
+            Opening {
+                length: length,
+                solutions: n,
+            }
+        }
+        ListAnswer::Refused(r) => {
+            let length = first::refused_line(out, r);
+            Opening {
+                length: length,
+                solutions: 0,
+            }
+        }
+    }
+}
+
+// Writes the lines of the solution whose record stands in slot k, and answers how long they are. A slot
+// that holds no solution's record has none.
+pub fn solution_lines(input: &[u8], records: &[u8], k: usize, out: &mut [u8]) -> usize
+    ensures { λ r. ⌜ Wrote (now (out .entry)) 0 (slotText (now (input .entry)) (now (records .entry)) k) (now (out .exit)) r × (r ≤ solutionTextSize) ⌝ }
+{
+    if input.len() < slots::ENDS {
+        return 0;
+    }
+    if records.len() / Solution::SIZE <= k {
+        return 0;
+    }
+    slots::put_slot(input, records, k, out)
+}
