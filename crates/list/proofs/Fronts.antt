@@ -15,7 +15,7 @@ use Rattle.spec.specs.Limits.{maxSlots, solutionSize}
 use Rattle.spec.specs.Basics.{range}
 use Rattle.spec.specs.Printed.{printed}
 use Rattle.spec.proofs.Lists.{range-suc, flatMap-append}
-use Rattle.octets.proofs.Writing.{written-within}
+use Rattle.output.proofs.Writing.{written-within}
 use Rattle.path.specs.Places.{Wrote}
 use Rattle.printed.specs.Pieces.{listed, countOf, firstLine, slotText, pieces}
 use Rattle.printed.proofs.Joined.{counted-room, pieces-printed}

@@ -30,8 +30,8 @@ use Rattle.spec.specs.Printed.{isPath, refusedLine}
 use Rattle.spec.proofs.Lists.{range-suc}
 use Rattle.spec.proofs.ChainLaws.{allowed-length}
 use Rattle.spec.proofs.LengthLaws.{solution-length}
-use Rattle.octets.specs.Write.{zeroed}
-use Rattle.octets.proofs.Writing.{zeroed-all}
+use Rattle.output.specs.Write.{zeroed}
+use Rattle.output.proofs.Writing.{zeroed-all}
 use Rattle.order.specs.Records.{recordAt}
 use Rattle.path.specs.Places.{Wrote}
 use Rattle.path.proofs.Writes.{wrote-none, wrote-as}

@@ -13,8 +13,8 @@ use borrow.Author.Tests.{lt-ltb, le-ltb}
 use Rattle.spec.specs.Basics.{if_then_else_}
 use Rattle.spec.specs.Printed.{decimalIn, decimal, hex}
 use Rattle.spec.proofs.PrintedLaws.{hex-length}
-use Rattle.octets.specs.Write.{written}
-use Rattle.octets.proofs.Writing.{written-sets, written-none}
+use Rattle.output.specs.Write.{written}
+use Rattle.output.proofs.Writing.{written-sets, written-none}
 use Rattle.path.specs.Places.{Wrote}
 use Rattle.printed.specs.Digits.{glyphOf, digits}
 

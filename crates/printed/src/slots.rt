@@ -17,7 +17,7 @@ pub(crate) fn list(input: &[u8], records: &mut [u8]) -> ListAnswer
     ensures { λ r. ⌜ (r, now (records .exit)) ≡ listed (now (input .entry)) (length (now (records .entry))) ⌝ }
 {
     if input.len() < ENDS {
-        octets::zero(records, 0);
+        output::zero(records, 0);
         return ListAnswer::Refused(Refusal::Cut);
     }
     let src = segment::isd_asn(input, 0);

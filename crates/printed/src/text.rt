@@ -5,7 +5,7 @@ ghost use mathlib.Core.List.{_++_};
 ghost use Prim.Native.Nat.{_+_, _^_, _≤_, _<_};
 ghost use lib.ListN.{length};
 ghost use Rattle.spec.specs.Printed.{decimal, hex};
-ghost use Rattle.octets.specs.Write.{written};
+ghost use Rattle.output.specs.Write.{written};
 ghost use Rattle.path.specs.Places.{Wrote};
 ghost use Rattle.printed.specs.Digits.{glyphOf, digits};
 
@@ -29,7 +29,7 @@ fn put_digits(out: &mut [u8], at: usize, base: u64, count: usize, n: u64)
     let mut rest = n;
     while 0 < i {
         i -= 1;
-        octets::put_byte(out, at + i, glyph(rest % base));
+        output::put_byte(out, at + i, glyph(rest % base));
         rest /= base;
     }
 }
@@ -69,7 +69,7 @@ pub(crate) fn put_word(out: &mut [u8], at: usize, word: &[u8]) -> usize
     ensures { λ r. ⌜ Wrote (now (out .entry)) at (now (word .entry)) (now (out .exit)) r ⌝ }
 {
     let n = word.len();
-    octets::copy(word, 0, n, out, at);
+    output::copy(word, 0, n, out, at);
     at + n
 }
 

@@ -6,7 +6,7 @@ use mathlib.Core.List.{[], _∷_}
 use native.Mathlib.Omega.{arith}
 use mathlib.Core.Path.{_≡_, refl, sym, ap, _∙_}
 use lib.ListN.{length}
-use Rattle.octets.specs.Write.{written}
+use Rattle.output.specs.Write.{written}
 use Rattle.printed.specs.Digits.{digits}
 use Rattle.printed.proofs.Numbers.{digits-turn, digits-none}
 use borrow.Author.Needs.{needs}
