@@ -204,14 +204,14 @@ module _ (b : List ℕ) (k j : ℕ) where
   unfolding repeats isEarlier segmentAt
   repeats-is h = rw (lt-ltb j k h)
 
-  module _ (before : j < k) {s : Sizes} (q : s ≡ sizesAt b) {one other : Head} (p : one ≡ headAt b k) (r : other ≡ headAt b j)
-      {heads : Bool} (e : heads ≡ sameHead (s .cores) k one j other) where
-    pub other-heads : heads ≡ false → repeats b k j ≡ false
-    other-heads h = repeats-is before ∙ other-head b k j q p r e h
+  pub repeats-by : j < k → {t : Bool} → t ≡ sameSegment (segmentAt b k) (segmentAt b j) → repeats b k j ≡ t
+  repeats-by h e = repeats-is h ∙ sym e
 
-    pub same-heads : heads ≡ true → {at n start m : ℕ} → at ≡ bodyOffset b k → n ≡ one .body → start ≡ bodyOffset b j → m ≡ other .body
-        → {bodies : Bool} → bodies ≡ sameParts b at n start m → repeats b k j ≡ bodies
-    same-heads h ea en et em t = repeats-is before ∙ by-bodies b k j q p r e h ea en et em t
+  -- segments with different ids are not equal
+  pub other-ids : j < k → {x y : ℕ} → x ≡ idAt b k → y ≡ idAt b j → (y ≡ x → ⊥) → repeats b k j ≡ false
+  unfolding headAt
+  other-ids h p q d =
+      repeats-is h ∙ segment-is b k j ∙ rw (other-id (cores b) k (headAt b k) j (headAt b j) (λ r. d (q ∙ sym r ∙ sym p)))
 
   repeats-not : k ≤ j → repeats b k j ≡ false
   unfolding repeats isEarlier segmentAt

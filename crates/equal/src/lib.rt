@@ -86,26 +86,19 @@ pub fn same_segment(book: &[u8], j: u8, k: u8) -> bool
     same_parts(book, at_j, m, at_k, n)
 }
 
-// No equal segment of the book stands at a lower position. The offset of the body at j is carried along.
+// No equal segment of the book stands at a lower position. Few have the same id, so that few are compared.
 pub fn is_first(book: &[u8], k: u8) -> bool
     ensures { λ r. ⌜ r ≡ isFirst (segments (now (book .entry))) (segmentAt (now (book .entry)) k) ⌝ }
 {
     let count = least(k as usize, segment::segment_count(book)) as u8;
-    let cores = segment::sizes(book).cores;
-    let own = segment::head(book, k);
-    let n = wide(own.body);
-    let at = segment::body_offset(book, k);
-    let mut start = segment::body_offset(book, 0);
+    let own = segment::id(book, k);
     let mut j: u8 = 0;
     while j < count {
-        let other = segment::head(book, j);
-        let m = wide(other.body);
-        if same_head(cores, k, own, j, other) {
-            if same_parts(book, at, n, start, m) {
+        if segment::id(book, j) == own {
+            if same_segment(book, k, j) {
                 return false;
             }
         }
-        start += m;
         j += 1;
     }
     true
