@@ -44,9 +44,9 @@ fn bodies_verdict(book: &[u8], count: u8) -> Verdict
     let mut k: u8 = 0;
     let mut at = segment::body_offset(book, 0);
     while k < count {
-        let head = segment::head(book, k);
-        let end = at + wide(head.body);
-        let v = entries_verdict(book, end, at, head.entries);
+        let end = at + wide(segment::body_length(book, k));
+        let n = segment::entry_count(book, k);
+        let v = entries_verdict(book, end, at, n);
         if let Verdict::Refused(_) = v {
             return v;
         }
@@ -63,7 +63,7 @@ fn too_long(book: &[u8], count: u8) -> bool
 {
     let mut k: u8 = 0;
     while k < count {
-        if Limits::ENTRIES < wide(segment::head(book, k).entries) {
+        if Limits::ENTRIES < wide(segment::entry_count(book, k)) {
             return true;
         }
         k += 1;

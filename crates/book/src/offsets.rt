@@ -37,10 +37,9 @@ pub fn entry_offsets(book: &[u8]) -> [u16; PLACES]
     let mut at = segment::body_offset(book, 0);
     let mut k: u8 = 0;
     while k < count {
-        let head = segment::head(book, k);
-        let n = least(Limits::ENTRIES, wide(head.entries));
+        let n = least(Limits::ENTRIES, wide(segment::entry_count(book, k)));
         fill_row(book, &mut table, k, at, n);
-        at += wide(head.body);
+        at += wide(segment::body_length(book, k));
         k += 1;
     }
     table

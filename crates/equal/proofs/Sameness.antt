@@ -9,13 +9,14 @@ use lib.ListN.{length, getD, take, drop, length-take, length-drop, drop-of-lengt
 use lib.Seq.{drop-cons, take-all}
 use lib.Dec.{ltb, eqb}
 use borrow.Author.Tests.{lt-ltb, le-ltb, ltb-true, ltb-false, eq-eqb, ne-eqb}
+use Rattle.spec.specs.declared.Sizes.{Sizes}
 use Rattle.spec.specs.declared.Head.{Head}
 use Rattle.spec.specs.Basics.{if_then_else_, any, filter, range, sameList}
-use Rattle.spec.specs.Book.{cores, segmentCount, timestampAt, idAt, bodyLengthAt, headAt, bodyOffset, segmentAt, segments}
+use Rattle.spec.specs.Book.{cores, segmentCount, timestampAt, idAt, bodyLengthAt, sizesAt, headAt, bodyOffset, segmentAt, segments}
 use Rattle.spec.specs.Edges.{sameBool, sameSegment, isEarlier, isFirst, firsts}
 use Rattle.equal.specs.Same.{sameHead, sameParts}
 use Rattle.segment.proofs.Positions.{one-less, any-none, any-done}
-use Rattle.segment.proofs.Fields.{time-read, id-read}
+use Rattle.segment.proofs.Fields.{cores-read, length-read}
 
 -- ---- bytes
 
@@ -125,58 +126,61 @@ module _ (b : List ℕ) (i m j n p u q v : ℕ) (ep : p ≡ min i (length b)) (e
 
 -- ---- segments
 
-module _ (b : List ℕ) (j k : ℕ) {one other : Head} (p : one ≡ headAt b j) (q : other ≡ headAt b k) where
-  pub other-id : (one .id ≡ other .id → ⊥) → sameHead b j k ≡ false
+module _ (c j : ℕ) (one : Head) (k : ℕ) (other : Head) where
+  pub other-id : (one .id ≡ other .id → ⊥) → sameHead c j one k other ≡ false
   unfolding sameHead
-  other-id h =
-      rw (ne-eqb (idAt b j) (idAt b k) (λ e. h (id-read b j p ∙ e ∙ sym (id-read b k q)))) (go (sameBool (ltb j (cores b)) (ltb k (cores b))) (eqb (timestampAt b j) (timestampAt b k)))
+  other-id h = rw (ne-eqb (one .id) (other .id) h) (go (sameBool (ltb j c) (ltb k c)) (eqb (one .timestamp) (other .timestamp)))
     where
       go : (s t : Bool) → (s && t && false) ≡ false
       go false t = refl
       go true false = refl
       go true true = refl
 
-  pub other-time : (one .timestamp ≡ other .timestamp → ⊥) → sameHead b j k ≡ false
+  pub other-time : (one .timestamp ≡ other .timestamp → ⊥) → sameHead c j one k other ≡ false
   unfolding sameHead
-  other-time h =
-      rw (ne-eqb (timestampAt b j) (timestampAt b k) (λ e. h (time-read b j p ∙ e ∙ sym (time-read b k q)))) (go (sameBool (ltb j (cores b)) (ltb k (cores b))) (eqb (idAt b j) (idAt b k)))
+  other-time h = rw (ne-eqb (one .timestamp) (other .timestamp) h) (go (sameBool (ltb j c) (ltb k c)) (eqb (one .id) (other .id)))
     where
       go : (s t : Bool) → (s && false && t) ≡ false
       go false t = refl
       go true t = refl
 
-  pub by-kind : one .id ≡ other .id → one .timestamp ≡ other .timestamp → sameHead b j k ≡ sameBool (ltb j (cores b)) (ltb k (cores b))
+  pub by-kind : one .id ≡ other .id → one .timestamp ≡ other .timestamp → sameHead c j one k other ≡ sameBool (ltb j c) (ltb k c)
   unfolding sameHead
-  by-kind e h =
-      rw (eq-eqb (timestampAt b j) (timestampAt b k) (sym (time-read b j p) ∙ h ∙ time-read b k q), eq-eqb (idAt b j) (idAt b k) (sym (id-read b j p) ∙ e ∙ id-read b k q))
-      (go (sameBool (ltb j (cores b)) (ltb k (cores b))))
+  by-kind e h = rw (eq-eqb (one .timestamp) (other .timestamp) h, eq-eqb (one .id) (other .id) e) (go (sameBool (ltb j c) (ltb k c)))
     where
       go : (s : Bool) → (s && true && true) ≡ s
       go false = refl
       go true = refl
 
-module _ (b : List ℕ) (j k : ℕ) where
-  -- equal segments have equal heads and bodies
-  segment-is : sameSegment (segmentAt b j) (segmentAt b k)
-      ≡ (sameHead b j k && sameParts b (bodyOffset b j) (bodyLengthAt b j) (bodyOffset b k) (bodyLengthAt b k))
-  unfolding sameSegment segmentAt sameHead sameParts
-  segment-is =
-      go (sameBool (ltb j (cores b)) (ltb k (cores b))) (eqb (timestampAt b j) (timestampAt b k)) (eqb (idAt b j) (idAt b k))
-      (sameList (take (bodyLengthAt b j) (drop (bodyOffset b j) b)) (take (bodyLengthAt b k) (drop (bodyOffset b k) b)))
-    where
-      go : (s t u v : Bool) → (s && t && u && v) ≡ ((s && t && u) && v)
-      go false t u v = refl
-      go true false u v = refl
-      go true true u v = refl
+-- equal segments have equal heads and bodies
+segment-is : (b : List ℕ) (j k : ℕ)
+    → sameSegment (segmentAt b j) (segmentAt b k)
+    ≡ (sameHead (cores b) j (headAt b j) k (headAt b k) && sameParts b (bodyOffset b j) (bodyLengthAt b j) (bodyOffset b k) (bodyLengthAt b k))
+unfolding sameSegment segmentAt headAt sameHead sameParts
+segment-is b j k =
+    go (sameBool (ltb j (cores b)) (ltb k (cores b))) (eqb (timestampAt b j) (timestampAt b k)) (eqb (idAt b j) (idAt b k))
+    (sameList (take (bodyLengthAt b j) (drop (bodyOffset b j) b)) (take (bodyLengthAt b k) (drop (bodyOffset b k) b)))
+  where
+    go : (s t u v : Bool) → (s && t && u && v) ≡ ((s && t && u) && v)
+    go false t u v = refl
+    go true false u v = refl
+    go true true u v = refl
 
-  -- what the code's two comparisons, of heads and of bodies, say of it
-  module _ {heads : Bool} (es : heads ≡ sameHead b j k) where
-    pub other-head : heads ≡ false → sameSegment (segmentAt b j) (segmentAt b k) ≡ false
-    other-head h = segment-is ∙ rw (sym es ∙ h)
+-- the sizes and the two heads that the code read, and what its two comparisons, of heads and of bodies, say of the segments
+module _ (b : List ℕ) (j k : ℕ) {s : Sizes} (q : s ≡ sizesAt b) {one other : Head} (p : one ≡ headAt b j) (r : other ≡ headAt b k)
+    {heads : Bool} (e : heads ≡ sameHead (s .cores) j one k other) where
+  read-is : heads ≡ sameHead (cores b) j (headAt b j) k (headAt b k)
+  read-is = let c : s .cores ≡ cores b = cores-read b q in cc
 
-    pub by-bodies : heads ≡ true → {at n start m : ℕ} → at ≡ bodyOffset b j → n ≡ bodyLengthAt b j → start ≡ bodyOffset b k → m ≡ bodyLengthAt b k
-        → {bodies : Bool} → bodies ≡ sameParts b at n start m → sameSegment (segmentAt b j) (segmentAt b k) ≡ bodies
-    by-bodies h ea en et em q = segment-is ∙ rw (sym es ∙ h) (cc)
+  pub other-head : heads ≡ false → sameSegment (segmentAt b j) (segmentAt b k) ≡ false
+  other-head h = segment-is b j k ∙ rw (sym read-is ∙ h)
+
+  pub by-bodies : heads ≡ true → {at n start m : ℕ} → at ≡ bodyOffset b j → n ≡ one .body → start ≡ bodyOffset b k → m ≡ other .body
+      → {bodies : Bool} → bodies ≡ sameParts b at n start m → sameSegment (segmentAt b j) (segmentAt b k) ≡ bodies
+  by-bodies h ea en et em t =
+      let x : one .body ≡ bodyLengthAt b j = length-read b j p in
+      let y : other .body ≡ bodyLengthAt b k = length-read b k r in
+      segment-is b j k ∙ rw (sym read-is ∙ h) (cc)
 
 -- ---- the first of equals
 
@@ -200,13 +204,14 @@ module _ (b : List ℕ) (k j : ℕ) where
   unfolding repeats isEarlier segmentAt
   repeats-is h = rw (lt-ltb j k h)
 
-  module _ (before : j < k) {heads : Bool} (es : heads ≡ sameHead b k j) where
-    pub other-heads : heads ≡ false → repeats b k j ≡ false
-    other-heads h = repeats-is before ∙ other-head b k j es h
+  pub repeats-by : j < k → {t : Bool} → t ≡ sameSegment (segmentAt b k) (segmentAt b j) → repeats b k j ≡ t
+  repeats-by h e = repeats-is h ∙ sym e
 
-    pub same-heads : heads ≡ true → {at n start m : ℕ} → at ≡ bodyOffset b k → n ≡ bodyLengthAt b k → start ≡ bodyOffset b j → m ≡ bodyLengthAt b j
-        → {bodies : Bool} → bodies ≡ sameParts b at n start m → repeats b k j ≡ bodies
-    same-heads h ea en et em q = repeats-is before ∙ by-bodies b k j es h ea en et em q
+  -- segments with different ids are not equal
+  pub other-ids : j < k → {x y : ℕ} → x ≡ idAt b k → y ≡ idAt b j → (y ≡ x → ⊥) → repeats b k j ≡ false
+  unfolding headAt
+  other-ids h p q d =
+      repeats-is h ∙ segment-is b k j ∙ rw (other-id (cores b) k (headAt b k) j (headAt b j) (λ r. d (q ∙ sym r ∙ sym p)))
 
   repeats-not : k ≤ j → repeats b k j ≡ false
   unfolding repeats isEarlier segmentAt

@@ -3,10 +3,10 @@
 ghost use mathlib.Core.Path.{_≡_};
 ghost use Prim.Native.Nat.{_+_, _^_, _≤_, _<_, min};
 ghost use lib.ListN.{length};
-ghost use lib.Dec.{ltb};
-ghost use Rattle.spec.specs.Book.{cores, segmentAt, segments};
+ghost use Rattle.spec.specs.Book.{segmentAt, segments};
 ghost use Rattle.spec.specs.Edges.{sameBool, sameSegment, isFirst};
 ghost use Rattle.equal.specs.Same.{sameHead, sameParts};
+use spec::Head;
 
 fn wide(x: u16) -> usize
     ensures { λ r. ⌜ (r ≡ x) × (r < 2 ^ 16) ⌝ }
@@ -26,26 +26,17 @@ fn same_bool(a: bool, b: bool) -> bool
     if a { b } else { !b }
 }
 
-// The segment at position k is a core segment.
-fn is_core(book: &[u8], k: u8) -> bool
-    ensures { λ r. ⌜ r ≡ ltb k (cores (now (book .entry))) ⌝ }
+// The segments at j and k, whose heads are given, are of the same kind, timestamp and id.
+fn same_head(cores: u16, j: u8, one: Head, k: u8, other: Head) -> bool
+    ensures { λ r. ⌜ r ≡ sameHead cores j one k other ⌝ }
 {
-    (k as u16) < segment::sizes(book).cores
-}
-
-// The segments at j and k are of the same kind, timestamp and id.
-fn same_head(book: &[u8], j: u8, k: u8) -> bool
-    ensures { λ r. ⌜ r ≡ sameHead (now (book .entry)) j k ⌝ }
-{
-    let one = segment::head(book, j);
-    let other = segment::head(book, k);
     if one.id != other.id {
         return false;
     }
     if one.timestamp != other.timestamp {
         return false;
     }
-    same_bool(is_core(book, j), is_core(book, k))
+    same_bool((j as u16) < cores, (k as u16) < cores)
 }
 
 // The n bytes at i and those at j are the same.
@@ -82,33 +73,32 @@ fn same_parts(book: &[u8], i: usize, m: usize, j: usize, n: usize) -> bool
 pub fn same_segment(book: &[u8], j: u8, k: u8) -> bool
     ensures { λ r. ⌜ r ≡ sameSegment (segmentAt (now (book .entry)) j) (segmentAt (now (book .entry)) k) ⌝ }
 {
-    if !same_head(book, j, k) {
+    let cores = segment::sizes(book).cores;
+    let one = segment::head(book, j);
+    let other = segment::head(book, k);
+    if !same_head(cores, j, one, k, other) {
         return false;
     }
-    let m = wide(segment::head(book, j).body);
-    let n = wide(segment::head(book, k).body);
+    let m = wide(one.body);
+    let n = wide(other.body);
     let at_j = segment::body_offset(book, j);
     let at_k = segment::body_offset(book, k);
     same_parts(book, at_j, m, at_k, n)
 }
 
-// No equal segment of the book stands at a lower position. The offset of the body at j is carried along.
+// No equal segment of the book stands at a lower position. Few have the same id, so that few are compared.
 pub fn is_first(book: &[u8], k: u8) -> bool
     ensures { λ r. ⌜ r ≡ isFirst (segments (now (book .entry))) (segmentAt (now (book .entry)) k) ⌝ }
 {
     let count = least(k as usize, segment::segment_count(book)) as u8;
-    let at = segment::body_offset(book, k);
-    let n = wide(segment::head(book, k).body);
-    let mut start = segment::body_offset(book, 0);
+    let own = segment::id(book, k);
     let mut j: u8 = 0;
     while j < count {
-        let m = wide(segment::head(book, j).body);
-        if same_head(book, k, j) {
-            if same_parts(book, at, n, start, m) {
+        if segment::id(book, j) == own {
+            if same_segment(book, k, j) {
                 return false;
             }
         }
-        start += m;
         j += 1;
     }
     true

@@ -59,7 +59,7 @@ fn message(book: &[u8], start: usize, count: usize) -> [u8; MESSAGE]
 pub fn fingerprint(book: &[u8], k: u8) -> [u8; 32]
     ensures { λ r. ⌜ r ≡ sha256 (take (inputSize * maxEntries) (fingerprintInput (segmentAt (now (book .entry)) k))) ⌝ }
 {
-    let count = least(Limits::ENTRIES, wide(segment::head(book, k).entries));
+    let count = least(Limits::ENTRIES, wide(segment::entry_count(book, k)));
     let m = message(book, segment::body_offset(book, k), count);
     let n = INPUT * count;
     sha256::sha256(&m[..n])

@@ -13,13 +13,12 @@ use Rattle.spec.specs.declared.Vertex.{Vertex}
 use Rattle.spec.specs.declared.Vertex.the-variants.{AS, Peering}
 use Rattle.spec.specs.declared.PeerEntry.{PeerEntry}
 use Rattle.spec.specs.declared.Sizes.{Sizes}
-use Rattle.spec.specs.declared.Head.{Head}
 use Rattle.spec.specs.declared.Verdict.the-variants.{Accepted}
 use Rattle.spec.specs.declared.Edge.{Edge}
 use Rattle.spec.specs.Limits.{maxSegments, maxEntries}
 use Rattle.spec.specs.Basics.{if_then_else_, any, filter, range}
 use Rattle.spec.specs.Octets.{be16}
-use Rattle.spec.specs.Book.{Segment, segmentAt, segmentCount, sizesAt, headAt, verdict, entryCountAt, isdAsnAt, peerCount, peerEntryAt, peerOffset}
+use Rattle.spec.specs.Book.{Segment, segmentAt, segmentCount, sizesAt, verdict, entryCountAt, isdAsnAt, peerCount, peerEntryAt, peerOffset}
 use Rattle.spec.specs.Edges.{sameAs, sameVertex, asOf, leafAs, peerOf, inConstruction, edgeOf}
 use Rattle.spec.proofs.Membership.{not-both}
 use Rattle.spec.proofs.Vertices.{sameAs-eq, sameVertex-eq, eq-sameVertex}
@@ -238,9 +237,8 @@ pub core-read : (b : List ℕ) (k : ℕ) {x : Sizes} → x ≡ sizesAt b → ltb
 unfolding sizesAt segmentAt
 core-read b k q = ap (λ (y : Sizes). ltb k (y .cores)) q
 
-pub count-head : (b : List ℕ) (k : ℕ) {x : Head} → x ≡ headAt b k → x .entries ≡ entryCount (segmentAt b k)
-unfolding headAt
-count-head b k q = ap (λ (y : Head). y .entries) q ∙ sym (count-read b k)
+pub count-of-entries : (b : List ℕ) (k : ℕ) {n : ℕ} → n ≡ entryCountAt b k → n ≡ entryCount (segmentAt b k)
+count-of-entries b k q = q ∙ sym (count-read b k)
 
 pub count-most : (b : List ℕ) → verdict b ≡ Accepted → (k : ℕ) → k < segmentCount b → entryCount (segmentAt b k) ≤ maxEntries
 count-most b a k h = omega (arith, count-read b k, entry-count b (accepted b a) k h)

@@ -114,7 +114,7 @@ fn is_core(book: &[u8], k: u8) -> bool
 pub(crate) fn entry_count(book: &[u8], k: u8) -> usize
     ensures { λ r. ⌜ r ≡ entryCount (segmentAt (now (book .entry)) k) ⌝ }
 {
-    segment::head(book, k).entries as usize
+    segment::entry_count(book, k) as usize
 }
 
 // The same in an accepted book, where it is small.
@@ -123,7 +123,7 @@ fn count_of(book: &[u8], k: u8) -> u8
     requires { ⌜ k < segmentCount (now book) ⌝ }
     ensures { λ r. ⌜ (r ≡ entryCount (segmentAt (now (book .entry)) k)) × (r ≤ maxEntries) ⌝ }
 {
-    segment::head(book, k).entries as u8
+    segment::entry_count(book, k) as u8
 }
 
 fn wide(x: u16) -> usize

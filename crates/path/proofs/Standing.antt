@@ -8,7 +8,6 @@ use mathlib.Core.List.{List}
 use lib.ListN.{length, getD}
 use lib.Dec.{ltb}
 use borrow.Author.Tests.{ltb-true, eqb-true, eq-eqb, ne-eqb}
-use Rattle.spec.specs.declared.Head.{Head}
 use Rattle.spec.specs.declared.HopField.{HopField}
 use Rattle.spec.specs.declared.AsEntry.{AsEntry}
 use Rattle.spec.specs.declared.PeerEntry.{PeerEntry}
@@ -16,7 +15,7 @@ use Rattle.spec.specs.declared.Edge.{Edge}
 use Rattle.spec.specs.Limits.{entrySize, maxEntries, maxSegments}
 use Rattle.spec.specs.Basics.{if_then_else_}
 use Rattle.spec.specs.Octets.{be16, be32}
-use Rattle.spec.specs.Book.{segmentCount, entryCountAt, bodyOffset, entryOffset, peerCount, headAt, isdAsnAt, asEntryAt, peerEntryAt, segmentAt}
+use Rattle.spec.specs.Book.{segmentCount, entryCountAt, bodyOffset, entryOffset, peerCount, isdAsnAt, asEntryAt, peerEntryAt, segmentAt}
 use Rattle.spec.specs.Edges.{entryOf, asOf, peerOf}
 use Rattle.spec.specs.Assembly.{isPeerHop, isPeerEdge, atShortcut, hopOf, segmentOf}
 use Rattle.spec.specs.Router.{hopEntry}
@@ -114,9 +113,9 @@ stands b offsets r e u m h =
     ap (λ l. getD l (maxEntries * e .position + m) 0) (r .table) ∙ table-at b a (e .position) m (u .position) i in
     (subst (Here b e m) (sym t) (here b a e u m h), omega (arith, offset-small b a (e .position) (u .position) m i))
 
-pub count-read : (b : List ℕ) (e : Edge) (h : Head) → h ≡ headAt b (e .position) → h .entries ≡ length (segmentOf b e .entries)
-unfolding headAt segmentOf
-count-read b e h q = ap (λ (x : Head). x .entries) q ∙ sym (segment-length b (e .position))
+pub count-read : (b : List ℕ) (e : Edge) {n : ℕ} → n ≡ entryCountAt b (e .position) → n ≡ length (segmentOf b e .entries)
+unfolding segmentOf
+count-read b e q = q ∙ sym (segment-length b (e .position))
 
 -- the entry of a hop
 pub entry-from : (b : List ℕ) (e : Edge) → Usable b e → (n j : ℕ) → n ≡ length (segmentOf b e .entries) → entryFrom e n j ≡ hopEntry (segmentOf b e) e j

@@ -21,8 +21,7 @@ pub(crate) fn entry_count(book: &[u8], e: Edge) -> usize
     requires { ⌜ Usable (now book) e ⌝ }
     ensures { λ r. ⌜ (r ≡ length (segmentOf (now (book .entry)) e .entries)) × (r ≤ maxEntries) × (e .shortcut < r) ⌝ }
 {
-    let head = segment::head(book, e.position);
-    head.entries as usize
+    segment::entry_count(book, e.position) as usize
 }
 
 // The entry of hop j, of n entries.

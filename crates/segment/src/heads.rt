@@ -2,7 +2,7 @@
 ghost use mathlib.Core.Path.{_≡_};
 ghost use Prim.Native.Nat.{_+_, _*_, _^_, _≤_, _<_};
 ghost use Rattle.spec.specs.Limits.{sizesSize, headSize};
-ghost use Rattle.spec.specs.Book.{segmentCount, headOffset, sizesAt, headAt, lengthsBelow, bodyOffset};
+ghost use Rattle.spec.specs.Book.{segmentCount, headOffset, idAt, entryCountAt, bodyLengthAt, sizesAt, headAt, lengthsBelow, bodyOffset};
 use spec::Head;
 use spec::Sizes;
 
@@ -55,6 +55,25 @@ pub fn head(book: &[u8], k: u8) -> Head
     }
 }
 
+// One field of the head at position k, for loops over heads that need no other.
+pub fn id(book: &[u8], k: u8) -> u16
+    ensures { λ r. ⌜ r ≡ idAt (now (book .entry)) k ⌝ }
+{
+    octets::be16_past(book, head_offset(k as usize), 4)
+}
+
+pub fn entry_count(book: &[u8], k: u8) -> u16
+    ensures { λ r. ⌜ r ≡ entryCountAt (now (book .entry)) k ⌝ }
+{
+    octets::be16_past(book, head_offset(k as usize), 6)
+}
+
+pub fn body_length(book: &[u8], k: u8) -> u16
+    ensures { λ r. ⌜ r ≡ bodyLengthAt (now (book .entry)) k ⌝ }
+{
+    octets::be16_past(book, head_offset(k as usize), 8)
+}
+
 // The bytes of the bodies before position k.
 fn lengths_below(book: &[u8], k: u8) -> usize
     ensures { λ r. ⌜ (r ≡ lengthsBelow (now (book .entry)) k) × (r ≤ 65535 * k) ⌝ }
@@ -62,7 +81,7 @@ fn lengths_below(book: &[u8], k: u8) -> usize
     let mut sum: usize = 0;
     let mut i: u8 = 0;
     while i < k {
-        sum += wide(head(book, i).body);
+        sum += wide(body_length(book, i));
         i += 1;
     }
     sum

@@ -1,63 +1,52 @@
--- `is_first` meets its contract. The loop's invariant: whether the segment stands at a lower position shows in those from j on, and `start` is where the body at j starts.
+-- `is_first` meets its contract. The loop's invariant: whether the segment stands at a lower position shows in those from j on.
 -- Assumes nothing.
 use mathlib.Core.Path.{_≡_, sym, ap, _∙_}
 use mathlib.Core.Logic.{⊎-elim}
 use mathlib.Core.Bool.{false, not}
-use Prim.Native.Nat.{_+_, _*_, _-_, _^_, _≤_, _<_}
+use Prim.Native.Nat.{_-_, _≤_}
 use native.Mathlib.Omega.{arith}
 use Rattle.spec.specs.Basics.{any, range}
-use Rattle.spec.specs.Book.{segmentCount, bodyOffset, segmentAt, segments}
+use Rattle.spec.specs.Book.{segmentCount, segmentAt, segments}
 use Rattle.spec.specs.Edges.{isFirst}
-use Rattle.segment.proofs.Positions.{body-next, any-here, any-next}
-use Rattle.segment.proofs.Fields.{length-read}
-use Rattle.equal.proofs.Sameness.{repeats, first-all, other-heads, same-heads, below-both, repeats-done}
+use Rattle.segment.proofs.Positions.{any-here, any-next}
+use Rattle.equal.proofs.Sameness.{repeats, first-all, repeats-by, other-ids, below-both, repeats-done}
 use borrow.Author.Needs.{needs}
 use Rattle.equal.proofs.is_first.Statement.{statement}
 use Rattle.equal.proofs.is_first.Tie as tie
 
 abbrev Inv-loop : tie.InvT-loop
-Inv-loop book k count at n start₀ j₀ start j = (j ≤ count) × (start < 2 ^ 21 + 65536 * j) × (start ≡ bodyOffset book j) × (isFirst (segments book) (segmentAt book k) ≡ not (any (repeats book k) (range j (segmentCount book - j))))
+Inv-loop book k count own j₀ j = (j ≤ count) × (isFirst (segments book) (segmentAt book k) ≡ not (any (repeats book k) (range j (segmentCount book - j))))
 
 abbrev μ-loop : tie.MeasureT-loop
-μ-loop book k count at n start₀ j₀ start j = count - j
+μ-loop book k count own j₀ j = count - j
 
 loop-holds : tie.Need-loop-holds Inv-loop μ-loop
-loop-holds c = (omega arith, omega arith, c .body-offset2 .ensures .0, first-all _ _)
+loop-holds c = (omega arith, first-all _ _)
 
 returns : tie.Need-returns Inv-loop μ-loop
 returns c =
-    let s = c .before .before .before .before in
-    let l = s .before .before .before in
-    let below = below-both _ _ _ (l .before .before .before .before .before .least .ensures) (l .before .before .before .before .before .before .segment-count .ensures .0) (c .before .before .before .before .before .before .loop-test .taken) in
-    let n = l .before .before .wide .ensures .0 ∙ length-read _ _ (l .before .before .before .head .ensures) in
-    let m = s .wide2 .ensures .0 ∙ length-read _ _ (s .before .head2 .ensures) in
-    let r = same-heads _ _ _ (below .0) (c .before .before .before .same-head .ensures) (c .before .before .if1 .taken) (l .before .before .before .before .body-offset .ensures .0) n (l .loop .inv .2) m (c .before .same-parts .ensures) ∙ c .if2 .taken in
-    sym (l .loop .inv .3 ∙ ap not (any-here _ _ _ (below .1) r))
+    let l = c .before .before .before .before .before in
+    let below = below-both _ _ _ (l .before .before .least .ensures) (l .before .before .before .segment-count .ensures .0) (c .before .before .before .before .loop-test .taken) in
+    sym (l .loop .inv .1 ∙ ap not (any-here _ _ _ (below .1) (repeats-by _ _ _ (below .0) (c .before .same-segment .ensures) ∙ c .if2 .taken)))
 
 loop-again : tie.Need-loop-again Inv-loop μ-loop
 loop-again c =
-    let s = c .before .before in
-    let l = s .before .before .before in
-    let a = l .before .before .before .before .before .before .before .before .args in
+    let l = c .before .before .before in
+    let a = l .before .before .before .before .before .args in
     let b = a .book .now in
-    let below = below-both b (a .k) (l .loop .j) (l .before .before .before .before .before .least .ensures) (l .before .before .before .before .before .before .segment-count .ensures .0) (c .before .before .before .before .loop-test .taken) in
-    let n = l .before .before .wide .ensures .0 ∙ length-read _ _ (l .before .before .before .head .ensures) in
-    let m = s .wide2 .ensures .0 ∙ length-read _ _ (s .before .head2 .ensures) in
-    let r : repeats b (a .k) (l .loop .j) ≡ false =
+    let j = l .loop .j in
+    let below = below-both b (a .k) j (l .before .before .least .ensures) (l .before .before .before .segment-count .ensures .0) (c .before .before .loop-test .taken) in
+    let r : repeats b (a .k) j ≡ false =
     ⊎-elim
-    (λ w. same-heads b (a .k) (l .loop .j) (below .0) (c .before .same-head .ensures) (w .0 .taken) (l .before .before .before .before .body-offset .ensures .0) n (l .loop .inv .2) m (w .1 .ensures) ∙ w .2 .left)
-    (λ w. other-heads b (a .k) (l .loop .j) (below .0) (c .before .same-head .ensures) (w .left))
-    (c .if1 .came) in (
-      omega arith,
-      omega arith,
-      body-next _ _ (l .loop .inv .2) m,
-      l .loop .inv .3 ∙ ap not (any-next _ _ _ (below .1) r),
-    )
+    (λ w. repeats-by b (a .k) j (below .0) (w .1 .ensures) ∙ w .2 .left)
+    (λ w. other-ids b (a .k) j (below .0) (l .before .id .ensures) (c .before .id2 .ensures) (w .left))
+    (c .if1 .came) in
+    (omega arith, l .loop .inv .1 ∙ ap not (any-next _ _ _ (below .1) r))
 
 returns-2 : tie.Need-returns-2 Inv-loop μ-loop
 returns-2 c =
     let l = c .before in
-    sym (l .loop .inv .3 ∙ ap not (repeats-done _ _ _ (l .before .before .before .before .before .least .ensures) (l .before .before .before .before .before .before .segment-count .ensures .0) (c .loop-test .left)))
+    sym (l .loop .inv .1 ∙ ap not (repeats-done _ _ _ (l .before .before .least .ensures) (l .before .before .before .segment-count .ensures .0) (c .loop-test .left)))
 
 pub is-first-spec : {M : Type 1} → statement M
 is-first-spec =
@@ -69,16 +58,10 @@ is-first-spec =
     (λ c κs. search needs)
     (λ c. search needs)
     (λ c κs. search needs)
-    (λ c κs. search needs)
-    (λ c κs. search needs)
-    (λ c κs. search needs)
     loop-holds
     (λ c κs. search needs)
     (λ c κs. search needs)
-    (λ c κs. search needs)
-    (λ c κs. search needs)
     returns
-    (λ c. search needs)
     (λ c. search needs)
     (λ c. search needs)
     loop-again

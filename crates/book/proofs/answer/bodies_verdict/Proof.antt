@@ -5,7 +5,6 @@ use Prim.Native.Nat.{_+_, _*_, _-_, _^_, _≤_, _<_}
 use native.Mathlib.Omega.{arith}
 use Rattle.spec.specs.Book.{bodyOffset, bodiesVerdict}
 use Rattle.segment.proofs.Positions.{body-next}
-use Rattle.segment.proofs.Fields.{count-read, length-read}
 use Rattle.book.proofs.Turns.{body-says, bodies-refused, bodies-next, bodies-done}
 use borrow.Author.Needs.{needs}
 use Rattle.book.proofs.answer.bodies_verdict.Statement.{statement}
@@ -25,20 +24,20 @@ loop-holds c =
 
 returns : tie.Need-returns Inv-loop μ-loop
 returns c =
-    let h = c .before .before .before .before .head .ensures in
+    let l = c .before .before .before .before .before .before .before in
     let e = c .enum-told .given .1 in
-    let says = body-says _ 0 _ (c .before .before .before .before .before .before .loop .inv .2) (c .before .before .before .wide .ensures .0 ∙ length-read _ _ h) (count-read _ _ h) (c .before .before .entries-verdict .ensures) in
-    sym (c .before .before .before .before .before .before .loop .inv .3 ∙ bodies-refused _ _ _ _ (c .before .before .before .before .before .loop-test .taken) (says ∙ e) ∙ sym e)
+    let says = body-says _ 0 _ (l .loop .inv .2) (c .before .before .before .before .wide .ensures .0 ∙ c .before .before .before .before .before .body-length .ensures) (c .before .before .before .entry-count .ensures) (c .before .before .entries-verdict .ensures) in
+    sym (l .loop .inv .3 ∙ bodies-refused _ _ _ _ (c .before .before .before .before .before .before .loop-test .taken) (says ∙ e) ∙ sym e)
 
 loop-again : tie.Need-loop-again Inv-loop μ-loop
 loop-again c =
-    let h = c .before .before .before .before .head .ensures in
-    let size = c .before .before .before .wide .ensures .0 ∙ length-read _ _ h in
-    let says = body-says _ 0 _ (c .before .before .before .before .before .before .loop .inv .2) size (count-read _ _ h) (c .before .before .entries-verdict .ensures) in (
+    let l = c .before .before .before .before .before .before .before in
+    let size = c .before .before .before .before .wide .ensures .0 ∙ c .before .before .before .before .before .body-length .ensures in
+    let says = body-says _ 0 _ (l .loop .inv .2) size (c .before .before .before .entry-count .ensures) (c .before .before .entries-verdict .ensures) in (
       omega arith,
       omega arith,
-      body-next _ _ (c .before .before .before .before .before .before .loop .inv .2) size,
-      c .before .before .before .before .before .before .loop .inv .3 ∙ bodies-next _ _ _ (c .before .before .before .before .before .loop-test .taken) (says ∙ c .enum-told2 .given .1),
+      body-next _ _ (l .loop .inv .2) size,
+      l .loop .inv .3 ∙ bodies-next _ _ _ (c .before .before .before .before .before .before .loop-test .taken) (says ∙ c .enum-told2 .given .1),
     )
 
 returns-2 : tie.Need-returns-2 Inv-loop μ-loop
@@ -55,6 +54,7 @@ bodies-verdict-spec =
     (λ c κs. search needs)
     (λ c κs. search needs)
     (λ c. search needs)
+    (λ c κs. search needs)
     (λ c κs. search needs)
     (λ c. search needs)
     returns

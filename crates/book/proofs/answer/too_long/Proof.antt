@@ -6,7 +6,6 @@ use native.Mathlib.Omega.{arith}
 use Rattle.spec.specs.Basics.{any, range}
 use Rattle.spec.specs.Book.{isLong, tooLong}
 use Rattle.segment.proofs.Positions.{any-here, any-next, any-done}
-use Rattle.segment.proofs.Fields.{count-read}
 use Rattle.book.proofs.Turns.{long-all, is-long, not-long}
 use borrow.Author.Needs.{needs}
 use Rattle.book.proofs.answer.too_long.Statement.{statement}
@@ -22,10 +21,10 @@ loop-holds : tie.Need-loop-holds Inv-loop μ-loop
 loop-holds c = (omega arith, long-all _ _ (c .before .pre))
 
 returns : tie.Need-returns Inv-loop μ-loop
-returns c = sym (c .before .before .before .before .loop .inv .1 ∙ any-here _ _ _ (c .before .before .before .loop-test .taken) (is-long _ _ (c .before .wide .ensures .0 ∙ count-read _ _ (c .before .before .head .ensures)) (c .if1 .taken)))
+returns c = sym (c .before .before .before .before .loop .inv .1 ∙ any-here _ _ _ (c .before .before .before .loop-test .taken) (is-long _ _ (c .before .wide .ensures .0 ∙ c .before .before .entry-count .ensures) (c .if1 .taken)))
 
 loop-again : tie.Need-loop-again Inv-loop μ-loop
-loop-again c = (omega arith, c .before .before .before .before .loop .inv .1 ∙ any-next _ _ _ (c .before .before .before .loop-test .taken) (not-long _ _ (c .before .wide .ensures .0 ∙ count-read _ _ (c .before .before .head .ensures)) (c .if1 .left)))
+loop-again c = (omega arith, c .before .before .before .before .loop .inv .1 ∙ any-next _ _ _ (c .before .before .before .loop-test .taken) (not-long _ _ (c .before .wide .ensures .0 ∙ c .before .before .entry-count .ensures) (c .if1 .left)))
 
 returns-2 : tie.Need-returns-2 Inv-loop μ-loop
 returns-2 c = sym (c .before .loop .inv .1 ∙ any-done _ _ _ (c .loop-test .left))

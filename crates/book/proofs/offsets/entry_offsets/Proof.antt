@@ -6,7 +6,6 @@ use native.Mathlib.Omega.{arith}
 use Rattle.spec.specs.Limits.{maxEntries}
 use Rattle.spec.specs.Book.{bodyOffset}
 use Rattle.segment.proofs.Positions.{body-next}
-use Rattle.segment.proofs.Fields.{count-read, length-read}
 use Rattle.book.specs.Offsets.{rowsBelow}
 use Rattle.book.proofs.Tables.{rows-step, rows-all}
 use borrow.Author.Needs.{needs}
@@ -25,12 +24,11 @@ loop-holds c = (omega arith, omega arith, c .body-offset .ensures .0, refl)
 
 loop-again : tie.Need-loop-again Inv-loop μ-loop
 loop-again c =
-    let l = c .before .before .before .before .before .before .before in
-    let h = c .before .before .before .before .before .head .ensures in (
+    let l = c .before .before .before .before .before .before .before .before in (
       omega arith,
       omega arith,
-      body-next _ _ (l .loop .inv .2) (c .wide2 .ensures .0 ∙ length-read _ _ h),
-      rows-step _ _ (l .loop .inv .2) (c .before .before .before .least2 .ensures ∙ ap (min maxEntries) (c .before .before .before .before .wide .ensures .0 ∙ count-read _ _ h)) (l .loop .inv .3) (c .before .fill-row .ensures),
+      body-next _ _ (l .loop .inv .2) (c .wide2 .ensures .0 ∙ c .before .body-length .ensures),
+      rows-step _ _ (l .loop .inv .2) (c .before .before .before .before .least2 .ensures ∙ ap (min maxEntries) (c .before .before .before .before .before .wide .ensures .0 ∙ c .before .before .before .before .before .before .entry-count .ensures)) (l .loop .inv .3) (c .before .before .fill-row .ensures),
     )
 
 returns : tie.Need-returns Inv-loop μ-loop
@@ -47,6 +45,7 @@ entry-offsets-spec =
     (λ c. search needs)
     (λ c κs. search needs)
     loop-holds
+    (λ c κs. search needs)
     (λ c κs. search needs)
     (λ c κs. search needs)
     (λ c κs. search needs)

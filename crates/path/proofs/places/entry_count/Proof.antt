@@ -10,7 +10,7 @@ use Rattle.path.proofs.places.entry_count.Tie as tie
 returns : tie.Need-returns
 returns c =
     let u = c .before .before .before .pre .1 in
-    let q = count-read _ _ _ (c .before .head .ensures) in
+    let q = count-read _ _ (c .before .entry-count .ensures) in
     (q, omega (arith, q, count-most _ (accepted _ (c .before .before .before .pre .0)) _ u), omega (arith, q, u .shortcut))
 
 pub entry-count-spec : {M : Type 1} → statement M

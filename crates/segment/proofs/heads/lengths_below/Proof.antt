@@ -5,7 +5,6 @@ use Prim.Native.Nat.{_*_, _-_, _≤_}
 use native.Mathlib.Omega.{arith}
 use Rattle.spec.specs.Book.{lengthsBelow}
 use Rattle.segment.proofs.Positions.{lengths-more}
-use Rattle.segment.proofs.Fields.{length-read}
 use borrow.Author.Needs.{needs}
 use Rattle.segment.proofs.heads.lengths_below.Statement.{statement}
 use Rattle.segment.proofs.heads.lengths_below.Tie as tie
@@ -24,7 +23,7 @@ loop-again : tie.Need-loop-again Inv-loop μ-loop
 loop-again c =
     let l = c .before .before .before in
     let b = l .before .before .args .book .now in
-    (omega arith, omega arith, omega (arith, lengths-more b (l .loop .i), length-read b (l .loop .i) (c .before .head .ensures)))
+    (omega arith, omega arith, omega (arith, lengths-more b (l .loop .i)))
 
 returns : tie.Need-returns Inv-loop μ-loop
 returns c = let e : c .before .loop .i ≡ c .before .before .before .args .k = omega arith in
