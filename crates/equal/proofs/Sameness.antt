@@ -3,7 +3,7 @@
 use mathlib.Core.Path.{_≡_, refl, sym, ap, ap₂, _∙_}
 use mathlib.Core.Bool.{Bool, true, false, _&&_, not}
 use mathlib.Core.List.{List, [], _∷_, map}
-use Prim.Native.Nat.{ℕ, suc, _+_, _-_, _≤_, _<_, min}
+use Prim.Native.Nat.{ℕ, zero, suc, _+_, _-_, _≤_, _<_, min}
 use native.Mathlib.Omega.{arith}
 use lib.ListN.{length, getD, take, drop, length-take, length-drop, drop-of-length-le}
 use lib.Seq.{drop-cons, take-all}
@@ -204,14 +204,19 @@ module _ (b : List ℕ) (k j : ℕ) where
   unfolding repeats isEarlier segmentAt
   repeats-is h = rw (lt-ltb j k h)
 
-  pub repeats-by : j < k → {t : Bool} → t ≡ sameSegment (segmentAt b k) (segmentAt b j) → repeats b k j ≡ t
-  repeats-by h e = repeats-is h ∙ sym e
+  module _ (before : j < k) {s : Sizes} (q : s ≡ sizesAt b) {one other : Head} (p : one ≡ headAt b k) (r : other ≡ headAt b j)
+      {heads : Bool} (e : heads ≡ sameHead (s .cores) k one j other) where
+    pub other-heads : heads ≡ false → repeats b k j ≡ false
+    other-heads h = repeats-is before ∙ other-head b k j q p r e h
+
+    pub same-heads : heads ≡ true → {at n start m : ℕ} → at ≡ bodyOffset b k → n ≡ one .body → start ≡ bodyOffset b j → m ≡ other .body
+        → {bodies : Bool} → bodies ≡ sameParts b at n start m → repeats b k j ≡ bodies
+    same-heads h ea en et em t = repeats-is before ∙ by-bodies b k j q p r e h ea en et em t
 
   -- segments with different ids are not equal
-  pub other-ids : j < k → {x y : ℕ} → x ≡ idAt b k → y ≡ idAt b j → (y ≡ x → ⊥) → repeats b k j ≡ false
+  pub other-ids : j < k → (idAt b j ≡ idAt b k → ⊥) → repeats b k j ≡ false
   unfolding headAt
-  other-ids h p q d =
-      repeats-is h ∙ segment-is b k j ∙ rw (other-id (cores b) k (headAt b k) j (headAt b j) (λ r. d (q ∙ sym r ∙ sym p)))
+  other-ids h d = repeats-is h ∙ segment-is b k j ∙ rw (other-id (cores b) k (headAt b k) j (headAt b j) (λ r. d (sym r)))
 
   repeats-not : k ≤ j → repeats b k j ≡ false
   unfolding repeats isEarlier segmentAt
@@ -231,6 +236,33 @@ module _ (b : List ℕ) (k j : ℕ) {count all : ℕ} (ec : count ≡ min k all)
 
   pub repeats-done : count ≤ j → any (repeats b k) (range j (segmentCount b - j)) ≡ false
   repeats-done h = none-from b k j (segmentCount b) (omega arith)
+
+-- the positions below j and j itself have other ids than k
+pub none-more : (b : List ℕ) (k j : ℕ) → ((i : ℕ) → i < j → idAt b i ≡ idAt b k → ⊥) → {x y : ℕ} → x ≡ idAt b k → y ≡ idAt b j → (y ≡ x → ⊥)
+    → (i : ℕ) → i < j + 1 → idAt b i ≡ idAt b k → ⊥
+none-more b k j none p q d i h = go (ltb i j) refl
+  where
+    go : (t : Bool) → ltb i j ≡ t → idAt b i ≡ idAt b k → ⊥
+    go true e r = none i (ltb-true _ _ e) r
+    go false e r =
+        let l : j ≤ i = ltb-false _ _ e in
+        let s : i ≡ j = omega arith in
+        d (q ∙ sym (ap (idAt b) s) ∙ r ∙ sym p)
+
+none-in : (p : ℕ → Bool) (i left : ℕ) → ((j : ℕ) → i ≤ j → j < i + left → p j ≡ false) → any p (range i left) ≡ false
+unfolding any range
+none-in p i zero h = refl
+none-in p i (suc left) h = rw (h i (omega arith) (omega arith)) (none-in p (i + 1) left (λ j a d. h j (omega arith) (omega arith)))
+
+-- no position that could has the id
+pub no-repeat : (b : List ℕ) (k : ℕ) {count all : ℕ} → count ≡ min k all → all ≡ segmentCount b
+    → ((j : ℕ) → j < count → idAt b j ≡ idAt b k → ⊥) → isFirst (segments b) (segmentAt b k) ≡ true
+no-repeat b k ec ea none =
+    first-all b k ∙ ap not (none-in (repeats b k) 0 (segmentCount b - 0) (λ j a h. go j (omega arith) (ltb j k) refl))
+  where
+    go : (j : ℕ) → j < segmentCount b → (t : Bool) → ltb j k ≡ t → repeats b k j ≡ false
+    go j h true q = let l : j < k = ltb-true _ _ q in other-ids b k j l (none j (omega arith))
+    go j h false q = let l : k ≤ j = ltb-false _ _ q in repeats-not b k j l
 
 filter-map : {A B : Type 0} (f : A → B) (p : B → Bool) (xs : List A) → filter p (map f xs) ≡ map f (filter (λ x. p (f x)) xs)
 unfolding filter

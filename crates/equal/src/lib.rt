@@ -1,9 +1,10 @@
 // Equal segments: of the same kind, timestamp, id and body. They count once, under the first position.
 // Every function answers for any bytes: what lies past the book's end reads as 0.
 ghost use mathlib.Core.Path.{_≡_};
-ghost use Prim.Native.Nat.{_+_, _^_, _≤_, _<_, min};
+ghost use mathlib.Core.Bool.{true};
+ghost use Prim.Native.Nat.{ℕ, _+_, _^_, _≤_, _<_, min};
 ghost use lib.ListN.{length};
-ghost use Rattle.spec.specs.Book.{segmentAt, segments};
+ghost use Rattle.spec.specs.Book.{idAt, segmentAt, segmentCount, segments};
 ghost use Rattle.spec.specs.Edges.{sameBool, sameSegment, isFirst};
 ghost use Rattle.equal.specs.Same.{sameHead, sameParts};
 use spec::Head;
@@ -86,20 +87,54 @@ pub fn same_segment(book: &[u8], j: u8, k: u8) -> bool
     same_parts(book, at_j, m, at_k, n)
 }
 
-// No equal segment of the book stands at a lower position. Few have the same id, so that few are compared.
-pub fn is_first(book: &[u8], k: u8) -> bool
-    ensures { λ r. ⌜ r ≡ isFirst (segments (now (book .entry))) (segmentAt (now (book .entry)) k) ⌝ }
+// No position below `count` has the id of position k.
+fn new_id(book: &[u8], k: u8, count: u8) -> bool
+    ensures { λ r. ⌜ (r ≡ true → (j : ℕ) → j < count → idAt (now (book .entry)) j ≡ idAt (now (book .entry)) k → ⊥) ⌝ }
 {
-    let count = least(k as usize, segment::segment_count(book)) as u8;
     let own = segment::id(book, k);
     let mut j: u8 = 0;
     while j < count {
         if segment::id(book, j) == own {
-            if same_segment(book, k, j) {
-                return false;
-            }
+            return false;
         }
         j += 1;
     }
     true
+}
+
+// No position below `count` has an equal segment. The offset of the body at j is carried along.
+fn is_new(book: &[u8], k: u8, count: u8) -> bool
+    requires { ⌜ count ≡ min k (segmentCount (now book)) ⌝ }
+    ensures { λ r. ⌜ r ≡ isFirst (segments (now (book .entry))) (segmentAt (now (book .entry)) k) ⌝ }
+{
+    let cores = segment::sizes(book).cores;
+    let own = segment::head(book, k);
+    let n = wide(own.body);
+    let at = segment::body_offset(book, k);
+    let mut start = segment::body_offset(book, 0);
+    let mut j: u8 = 0;
+    while j < count {
+        let other = segment::head(book, j);
+        let m = wide(other.body);
+        if same_head(cores, k, own, j, other) {
+            if same_parts(book, at, n, start, m) {
+                return false;
+            }
+        }
+        start += m;
+        j += 1;
+    }
+    true
+}
+
+// No equal segment of the book stands at a lower position. Few segments have an id of another, so that few
+// bodies are looked for.
+pub fn is_first(book: &[u8], k: u8) -> bool
+    ensures { λ r. ⌜ r ≡ isFirst (segments (now (book .entry))) (segmentAt (now (book .entry)) k) ⌝ }
+{
+    let count = least(k as usize, segment::segment_count(book)) as u8;
+    if new_id(book, k, count) {
+        return true;
+    }
+    is_new(book, k, count)
 }
