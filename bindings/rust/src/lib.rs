@@ -1,0 +1,153 @@
+//! SCION path combination: the proved C library of `include/combinator.h`, from Rust.
+//!
+//! [`list`] lists every way to join the segments of a book into a path from a source to a destination,
+//! the best first. [`assemble`] makes the path of one of them. Both write to a lent buffer, and what
+//! they answer borrows it; nothing is allocated and nothing is kept between calls.
+//!
+//! README.md shows the switch from scion-sdk's `combine`.
+#![no_std]
+#![warn(missing_docs)]
+
+mod book;
+mod isd_asn;
+mod path;
+mod read;
+mod refusal;
+mod solution;
+
+pub use book::{AsEntry, BookWriter, PeerEntry};
+pub use isd_asn::{IsdAsn, ParseError};
+pub use path::{HopField, InfoField, Path, PathInterface, Segment};
+pub use refusal::Refusal;
+pub use solution::{Solution, SolutionEdge, SolutionIter, Solutions};
+
+/// The most bytes of a book.
+pub const MAX_BOOK: usize = 61_440;
+/// The most segments of a book, of both kinds.
+pub const MAX_SEGMENTS: usize = 64;
+/// The most entries of a segment.
+pub const MAX_ENTRIES: usize = 16;
+/// The most peers of an entry.
+pub const MAX_PEERS: usize = 4;
+/// The most solutions that can be listed.
+pub const MAX_SOLUTIONS: usize = 4_096;
+/// The bytes of an output of [`list`] that takes [`MAX_SOLUTIONS`].
+pub const LIST_SIZE: usize = MAX_SOLUTIONS * Solution::SIZE;
+
+mod ffi {
+    extern "C" {
+        pub fn combinator_list(
+            src: u64,
+            dst: u64,
+            book: *const u8,
+            book_len: usize,
+            out: *mut u8,
+            out_len: usize,
+        ) -> u32;
+
+        pub fn combinator_assemble(
+            src: u64,
+            dst: u64,
+            book: *const u8,
+            book_len: usize,
+            record: *const u8,
+            record_len: usize,
+            out: *mut u8,
+            out_len: usize,
+        ) -> u32;
+    }
+
+    pub const PATH: u32 = 0;
+    pub const LOOP: u32 = 1;
+    pub const BARE: u32 = 2;
+}
+
+/// Lists the solutions from `src` to `dst` of a book, the best first.
+///
+/// There is a slot for each 16 bytes of `out`, but not more than [`MAX_SOLUTIONS`]; with more solutions
+/// than slots the answer is [`Refusal::Full`]. [`LIST_SIZE`] bytes suffice for every book that can be
+/// listed at all, and a shorter output is cheaper, since all of it is set. Where `src` equals `dst` the
+/// list is empty.
+pub fn list<'a>(
+    src: IsdAsn,
+    dst: IsdAsn,
+    book: &[u8],
+    out: &'a mut [u8],
+) -> Result<Solutions<'a>, Refusal> {
+    // SAFETY: each pointer is a slice's, so it is not null, also where the slice is empty, and is good
+    // for the length beside it. A slice lent mutably overlaps no other. The library keeps no pointer.
+    let answer = unsafe {
+        ffi::combinator_list(
+            src.0,
+            dst.0,
+            book.as_ptr(),
+            book.len(),
+            out.as_mut_ptr(),
+            out.len(),
+        )
+    };
+    match Refusal::of_answer(answer) {
+        Some(refusal) => Err(refusal),
+        None => Ok(Solutions::new(out, answer as usize)),
+    }
+}
+
+/// What [`assemble`] makes of a solution.
+#[derive(Clone, Copy, Debug, PartialEq, Eq)]
+pub enum Assembled<'a> {
+    /// The path.
+    Path(Path<'a>),
+    /// No path: its interfaces would show one AS more than twice.
+    Loop,
+    /// No path: it would have no interfaces.
+    Bare,
+}
+
+impl<'a> Assembled<'a> {
+    /// The path, where there is one.
+    pub fn path(self) -> Option<Path<'a>> {
+        match self {
+            Self::Path(path) => Some(path),
+            Self::Loop | Self::Bare => None,
+        }
+    }
+}
+
+/// Makes the path of a solution.
+///
+/// `src`, `dst` and `book` are those of the listing. `solution` is a [`Solution`], or the 16 bytes of
+/// one; other bytes are refused as [`Refusal::Stranger`]. A solution of a list that is too long
+/// ([`Refusal::Full`]) is taken too. `out` has at least [`Path::SIZE`] bytes.
+pub fn assemble<'a>(
+    src: IsdAsn,
+    dst: IsdAsn,
+    book: &[u8],
+    solution: impl AsRef<[u8]>,
+    out: &'a mut [u8],
+) -> Result<Assembled<'a>, Refusal> {
+    let record = solution.as_ref();
+    // SAFETY: as in `list`; `solution` lives until the call has ended.
+    let answer = unsafe {
+        ffi::combinator_assemble(
+            src.0,
+            dst.0,
+            book.as_ptr(),
+            book.len(),
+            record.as_ptr(),
+            record.len(),
+            out.as_mut_ptr(),
+            out.len(),
+        )
+    };
+    match answer {
+        ffi::PATH => Ok(Assembled::Path(Path::new(out))),
+        ffi::LOOP => Ok(Assembled::Loop),
+        ffi::BARE => Ok(Assembled::Bare),
+        _ => Err(Refusal::of_answer(answer).expect("an answer that combinator.h names")),
+    }
+}
+
+/// Makes the examples of README.md tests.
+#[cfg(doctest)]
+#[doc = include_str!("../README.md")]
+struct Readme;

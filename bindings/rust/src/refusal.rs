@@ -1,0 +1,117 @@
+use core::{
+    error::Error,
+    fmt::{self, Display, Formatter},
+};
+
+/// Why a call was refused: the numbered answers of document 01.
+///
+/// Of several that hold, the one tested first is answered; `include/combinator.h` has the order. The
+/// output of a refused call is all zero.
+#[derive(Clone, Copy, Debug, PartialEq, Eq, PartialOrd, Ord, Hash)]
+#[repr(u8)]
+#[non_exhaustive]
+pub enum Refusal {
+    /// The book is under 8 bytes, or shorter than its sizes say.
+    Cut = 1,
+    /// The book is longer than its sizes say.
+    Surplus = 2,
+    /// The book is above [`MAX_BOOK`](crate::MAX_BOOK) bytes.
+    Oversize = 3,
+    /// More than [`MAX_SEGMENTS`](crate::MAX_SEGMENTS) segments.
+    Crowded = 4,
+    /// A segment with more than [`MAX_ENTRIES`](crate::MAX_ENTRIES) entries.
+    Long = 5,
+    /// An entry with more than [`MAX_PEERS`](crate::MAX_PEERS) peers.
+    Peers = 6,
+    /// Body lengths do not sum to the total, or a body is not filled exactly.
+    Misfit = 7,
+    /// Listing: more solutions than slots.
+    Full = 8,
+    /// Assembly: the output is under [`Path::SIZE`](crate::Path::SIZE) bytes.
+    Small = 9,
+    /// Assembly: no solution of this book, source and destination.
+    Stranger = 10,
+}
+
+/// In the library's answers a refusal stands this far up.
+const REFUSED: u32 = 65_536;
+
+impl Refusal {
+    /// All refusals, by number.
+    pub const ALL: [Self; 10] = [
+        Self::Cut,
+        Self::Surplus,
+        Self::Oversize,
+        Self::Crowded,
+        Self::Long,
+        Self::Peers,
+        Self::Misfit,
+        Self::Full,
+        Self::Small,
+        Self::Stranger,
+    ];
+
+    /// The number of document 01's table.
+    pub const fn number(self) -> u8 {
+        self as u8
+    }
+
+    /// The refusal of a number.
+    pub fn from_number(number: u8) -> Option<Self> {
+        let index = usize::from(number).checked_sub(1)?;
+        Self::ALL.get(index).copied()
+    }
+
+    /// The word of document 01's table.
+    pub const fn word(self) -> &'static str {
+        match self {
+            Self::Cut => "Cut",
+            Self::Surplus => "Surplus",
+            Self::Oversize => "Oversize",
+            Self::Crowded => "Crowded",
+            Self::Long => "Long",
+            Self::Peers => "Peers",
+            Self::Misfit => "Misfit",
+            Self::Full => "Full",
+            Self::Small => "Small",
+            Self::Stranger => "Stranger",
+        }
+    }
+
+    const fn meaning(self) -> &'static str {
+        match self {
+            Self::Cut => "the book is under 8 bytes, or shorter than its sizes say",
+            Self::Surplus => "the book is longer than its sizes say",
+            Self::Oversize => "the book is above 61440 bytes",
+            Self::Crowded => "the book has more than 64 segments",
+            Self::Long => "a segment has more than 16 entries",
+            Self::Peers => "an entry has more than 4 peers",
+            Self::Misfit => "body lengths do not sum to the total, or a body is not filled exactly",
+            Self::Full => "there are more solutions than slots",
+            Self::Small => "the output is under 1538 bytes",
+            Self::Stranger => "no solution of this book, source and destination",
+        }
+    }
+
+    /// The refusal in an answer of the library; none where the answer is no refusal.
+    pub(crate) fn of_answer(answer: u32) -> Option<Self> {
+        let number = answer.checked_sub(REFUSED)?;
+        let refusal = u8::try_from(number).ok().and_then(Self::from_number);
+        Some(refusal.expect("an answer that combinator.h names"))
+    }
+}
+
+/// For instance `refused 1 Cut: the book is under 8 bytes, or shorter than its sizes say`.
+impl Display for Refusal {
+    fn fmt(&self, f: &mut Formatter<'_>) -> fmt::Result {
+        write!(
+            f,
+            "refused {} {}: {}",
+            self.number(),
+            self.word(),
+            self.meaning()
+        )
+    }
+}
+
+impl Error for Refusal {}
