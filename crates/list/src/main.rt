@@ -11,10 +11,11 @@ ghost use Rattle.spec.specs.Basics.{range};
 ghost use Rattle.spec.specs.Printed.{printed};
 ghost use Rattle.printed.specs.Pieces.{listed, countOf, firstLine, slotText, firstLineSize, solutionTextSize};
 use printed::Opening;
+use spec::Limits;
 
 // An input whose book is one byte too long: what follows makes no difference (`printed-front` of crate
 // `printed`).
-const INPUT: usize = 61457;
+const INPUT: usize = 16 + Limits::BOOK + 1;
 
 fn write_first(input: &[u8], line: &[u8]) -> usize
     requires { ⌜ now line ≡ firstLine (now input) (maxSlots * solutionSize) ⌝ }

@@ -1,19 +1,17 @@
 -- What the code leaves of an input, its list and its slots, in the terms of the contracts.
 -- Assumes nothing.
-use Prim.Native.Nat.{ℕ, zero, suc, _+_, _-_, _*_, _/_, _<_, _≤_, zero-le}
+use Prim.Native.Nat.{ℕ, _+_, _-_, _*_, _/_, _<_, _≤_}
 use native.Mathlib.Nat.{zero-add}
 use native.Mathlib.Numerals.{add-one}
 use native.Mathlib.Omega.{arith}
-use mathlib.Core.Path.{_≡_, refl, sym, ap, ap₂, _∙_, subst}
+use mathlib.Core.Path.{_≡_, refl, sym, ap, _∙_}
 use mathlib.Core.Bool.{Bool, true, false}
-use mathlib.Core.List.{List, [], _∷_, _++_, flatMap}
-use lib.ListN.{length, take, drop, replicate, length-append, length-take, length-drop, drop-of-length-le}
+use mathlib.Core.List.{List, [], _∷_, _++_}
+use lib.ListN.{length, take, drop, replicate, length-take, length-drop, drop-of-length-le}
 use lib.Seq.{take-all}
-use lib.Dec.{ltb}
 use borrow.Author.Tests.{lt-ltb, le-ltb}
 use Rattle.sha256.specs.Message.{sha256}
 use Rattle.spec.specs.declared.IsdAsn.{IsdAsn}
-use Rattle.spec.specs.declared.Edge.{Edge}
 use Rattle.spec.specs.declared.Refusal.{Refusal}
 use Rattle.spec.specs.declared.Refusal.the-variants.{Cut}
 use Rattle.spec.specs.declared.Verdict.{Verdict}
@@ -22,10 +20,8 @@ use Rattle.spec.specs.declared.ListAnswer.{ListAnswer}
 use Rattle.spec.specs.declared.ListAnswer.the-variants.{Count, Refused as RefusedList}
 use Rattle.spec.specs.Limits.{solutionSize, pathSize}
 use Rattle.spec.specs.Basics.{if_then_else_, filter, range}
-use Rattle.spec.specs.Octets.{Bytes}
 use Rattle.spec.specs.Book.{verdict, isdAsnAt}
 use Rattle.spec.specs.Answers.{Listed, refusedList, listing, assembly}
-use Rattle.spec.specs.Records.{solutionOctets}
 use Rattle.spec.specs.Printed.{isPath, refusedLine}
 use Rattle.spec.proofs.Lists.{range-suc}
 use Rattle.spec.proofs.ChainLaws.{allowed-length}
@@ -36,7 +32,6 @@ use Rattle.order.specs.Records.{recordAt}
 use Rattle.path.specs.Places.{Wrote}
 use Rattle.path.proofs.Writes.{wrote-none, wrote-as}
 use Rattle.printed.specs.Pieces.{solutionText, slotText, slotHasPath, pathsTo, listed, countsLine, firstBy, firstLine, firstLineSize, countOf}
-use Rattle.printed.specs.declared.Opening.{Opening}
 use Rattle.printed.specs.Opened.{Opened}
 use Rattle.printed.proofs.Solutions.{text-stranger, text-refused}
 use Rattle.printed.proofs.Joined.{counted-room}

@@ -1,10 +1,10 @@
 -- The pieces of a printed list, one after the other, are the list.
 -- Assumes nothing.
-use Prim.Native.Nat.{ℕ, zero, suc, _+_, _*_, _^_, _<_, _≤_}
+use Prim.Native.Nat.{ℕ, suc, _+_, _*_, _<_, _≤_}
 use native.Mathlib.Nat.{zero-add}
 use native.Mathlib.Decide.{decLe}
 use native.Mathlib.Omega.{arith}
-use mathlib.Core.Path.{_≡_, refl, sym, ap, ap₂, _∙_, subst}
+use mathlib.Core.Path.{_≡_, refl, sym, ap, ap₂, _∙_}
 use mathlib.Core.Bool.{Bool, true, false}
 use mathlib.Core.List.{List, [], _∷_, _++_, map, flatMap, append-nil, List·Memᴰ as Mem, List·Memᴰ·head as head, List·Memᴰ·tail as tail, head-eq-of-cons-eq, tail-eq-of-cons-eq}
 use lib.ListN.{length, take, drop, replicate, length-map, length-drop}
@@ -14,7 +14,6 @@ use borrow.Author.Tests.{lt-ltb, le-ltb, ltb-false}
 use Rattle.sha256.specs.Message.{sha256}
 use Rattle.spec.specs.declared.IsdAsn.{IsdAsn}
 use Rattle.spec.specs.declared.Edge.{Edge}
-use Rattle.spec.specs.declared.Refusal.{Refusal}
 use Rattle.spec.specs.declared.Refusal.the-variants.{Cut, Oversize, Full}
 use Rattle.spec.specs.declared.Verdict.{Verdict}
 use Rattle.spec.specs.declared.Verdict.the-variants.{Accepted, Refused as RefusedBook}
@@ -27,7 +26,7 @@ use Rattle.spec.specs.Chains.{IsChain}
 use Rattle.spec.specs.Order.{solutions}
 use Rattle.spec.specs.Records.{solutionOctets, slots}
 use Rattle.spec.specs.Answers.{Listed, refusedList, listingOf, listingOn, listing, assembly}
-use Rattle.spec.specs.Printed.{item, newline, solutionLines, solutionsLines, isPath, assembles, refusedLine, printedOn, printed}
+use Rattle.spec.specs.Printed.{item, newline, solutionsLines, isPath, assembles, refusedLine, printedOn, printed}
 use Rattle.spec.proofs.Lists.{map-same}
 use Rattle.spec.proofs.Membership.{map-mem}
 use Rattle.spec.proofs.ChainLaws.{allowed-length}

@@ -1,11 +1,11 @@
 -- How long the lines of a solution are at most.
 -- Assumes nothing.
-use Prim.Native.Nat.{ℕ, zero, suc, _+_, _*_, _^_, _<_, _≤_, zero-le}
+use Prim.Native.Nat.{ℕ, suc, _+_, _*_, _^_, _<_, _≤_, zero-le}
 use native.Mathlib.Omega.{arith}
 use mathlib.Core.Path.{_≡_, refl, sym, ap, _∙_, subst}
 use mathlib.Core.Logic.{_⊎_, inl, inr}
 use mathlib.Core.Bool.{Bool, true, false}
-use mathlib.Core.List.{List, [], _∷_, _++_, map, flatMap, List·Memᴰ as Mem}
+use mathlib.Core.List.{List, [], _++_, flatMap, List·Memᴰ as Mem}
 use Prim.Native.String.{String}
 use lib.ListN.{length, length-append, length-map}
 use Rattle.spec.specs.declared.IsdAsn.{IsdAsn}
@@ -28,10 +28,10 @@ use Rattle.spec.proofs.ChainLaws.{chains-sound, chains-complete}
 use Rattle.spec.proofs.ByteLaws.{GoodInfo}
 use Rattle.spec.proofs.BookLaws.{Stored, stored, accepted}
 use Rattle.spec.proofs.PathLaws.{hops-length, good-infos}
-use Rattle.spec.proofs.Bounds.{EdgeBounds, ChainBounds, flat-most, interfaces-most, chain-bounds}
+use Rattle.spec.proofs.Bounds.{ChainBounds, flat-most, interfaces-most, chain-bounds}
 use Rattle.spec.proofs.ReadBack.{GoodInterface, good-interfaces, mtu-lt, expiry-lt}
 use Rattle.spec.proofs.PrintedLaws.{decimal-length, hex-length}
-use Rattle.printed.specs.Pieces.{infoLineSize, interfaceLineSize, solutionLineSize, solutionTextSize, solutionText}
+use Rattle.printed.specs.Pieces.{infoLineSize, interfaceLineSize, solutionTextSize, solutionText}
 use Rattle.printed.proofs.Solutions.{text-chain, text-stranger, text-refused, record-of}
 
 pub item-most : (word : String) (k n : ℕ) → n < 10 ^ suc k → length (item word n) ≤ length (ascii word) + suc k

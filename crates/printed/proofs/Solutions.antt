@@ -1,31 +1,27 @@
 -- The lines of a solution, from what assembly of its record answers.
 -- Assumes nothing.
-use Prim.Native.Nat.{ℕ, _+_, _^_, _<_, _≤_}
+use Prim.Native.Nat.{ℕ, _+_}
 use native.Mathlib.Nat.{le-refl}
-use native.Mathlib.Omega.{arith}
 use mathlib.Core.Path.{_≡_, refl, sym, ap, ap₂, _∙_, subst}
 use mathlib.Core.Logic.{_⊎_, inl, inr}
 use mathlib.Core.Bool.{Bool, true, false}
-use mathlib.Core.List.{List, [], _∷_, _++_, map, flatMap, List·Memᴰ as Mem, List·Memᴰ·head as head, List·Memᴰ·tail as tail, List·Memᴰ·not-nil as not-nil, List·Memᴰ·cases-cons as cases-cons}
-use lib.ListN.{length, getD}
+use mathlib.Core.List.{List, [], _∷_, _++_, flatMap, List·Memᴰ as Mem, List·Memᴰ·head as head, List·Memᴰ·tail as tail, List·Memᴰ·not-nil as not-nil, List·Memᴰ·cases-cons as cases-cons}
+use lib.ListN.{length}
 use Rattle.spec.specs.declared.IsdAsn.{IsdAsn}
 use Rattle.spec.specs.declared.Edge.{Edge}
 use Rattle.spec.specs.declared.Path.{Path as PathHead}
-use Rattle.spec.specs.declared.InfoField.{InfoField}
-use Rattle.spec.specs.declared.PathInterface.{PathInterface}
 use Rattle.spec.specs.declared.Refusal.{Refusal}
-use Rattle.spec.specs.declared.Refusal.the-variants.{Stranger}
 use Rattle.spec.specs.declared.Verdict.{Verdict}
 use Rattle.spec.specs.declared.Verdict.the-variants.{Accepted, Refused as RefusedBook}
 use Rattle.spec.specs.declared.PathAnswer.{PathAnswer}
 use Rattle.spec.specs.declared.PathAnswer.the-variants.{Path, Loop, Bare, Refused as RefusedPath}
 use Rattle.spec.specs.Limits.{pathSize}
 use Rattle.spec.specs.Basics.{if_then_else_, range, sameList, padded}
-use Rattle.spec.specs.Octets.{Bytes, be16, octets2}
+use Rattle.spec.specs.Octets.{Bytes, octets2}
 use Rattle.spec.specs.Book.{verdict}
 use Rattle.spec.specs.Chains.{IsChain, chains}
 use Rattle.spec.specs.Order.{cost}
-use Rattle.spec.specs.Assembly.{CombinedPath, combinedPath, isLoop, isBare, outcome}
+use Rattle.spec.specs.Assembly.{combinedPath, isLoop, isBare, outcome}
 use Rattle.spec.specs.Records.{solutionOctets, pathHead, pathOctets, pathHeadIn, recordInterface, interfacesIn}
 use Rattle.spec.specs.Router.{recordInfo, infosIn}
 use Rattle.spec.specs.Answers.{Assembled, refusedPath, leftBy, pathAnswer, assembly}

@@ -1,9 +1,8 @@
 // The first line: the counts, or a refusal.
 ghost use mathlib.Core.Path.{_≡_};
-ghost use mathlib.Core.List.{_++_};
 ghost use Prim.Native.Nat.{_≤_};
 ghost use Rattle.spec.specs.Answers.{refusalNumber};
-ghost use Rattle.spec.specs.Printed.{item, newline, refusedLine};
+ghost use Rattle.spec.specs.Printed.{refusedLine};
 ghost use Rattle.path.specs.Places.{Wrote};
 ghost use Rattle.printed.specs.Pieces.{countsLine, firstLineSize};
 use crate::text;

@@ -1,6 +1,5 @@
 // The printed list, piece by piece, in a lent buffer: the first line, then the lines of each solution.
 // `proofs/Joined` says that the pieces, one after the other, are the list.
-ghost use mathlib.Core.Path.{_≡_};
 ghost use Prim.Native.Nat.{_≤_};
 ghost use lib.ListN.{length};
 ghost use Rattle.path.specs.Places.{Wrote};

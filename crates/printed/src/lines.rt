@@ -1,9 +1,8 @@
 // The lines of a path, from its record.
 ghost use mathlib.Core.Path.{_≡_};
-ghost use mathlib.Core.List.{_++_};
 ghost use Prim.Native.Nat.{_+_, _*_, _^_, _≤_, _<_};
 ghost use Rattle.spec.specs.Records.{bit, pathHeadIn};
-ghost use Rattle.spec.specs.Printed.{item, newline, infoLine, interfaceLine};
+ghost use Rattle.spec.specs.Printed.{infoLine, interfaceLine};
 ghost use Rattle.path.specs.Places.{Wrote};
 ghost use Rattle.printed.specs.Lines.{fieldsLine, infoText, interfaceText, linesTo, pathText};
 use crate::reading;

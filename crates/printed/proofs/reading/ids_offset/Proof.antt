@@ -1,7 +1,7 @@
 -- `ids_offset` meets its contract.
 -- Assumes nothing.
 use native.Mathlib.Omega.{arith}
-use Rattle.spec.specs.Records.{pathHeadIn, asesOffset, idsOffset}
+use Rattle.spec.specs.Records.{pathHeadIn, idsOffset}
 use borrow.Author.Needs.{needs}
 use Rattle.printed.proofs.reading.ids_offset.Statement.{statement}
 use Rattle.printed.proofs.reading.ids_offset.Tie as tie

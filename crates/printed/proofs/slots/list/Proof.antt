@@ -1,6 +1,5 @@
 -- `list` meets its contract.
 -- Assumes nothing.
-use native.Mathlib.Omega.{arith}
 use mathlib.Core.Path.{refl}
 use Rattle.printed.proofs.Inputs.{book-part, listed-short, listed-long}
 use borrow.Author.Needs.{needs}

@@ -1,6 +1,5 @@
 -- `put_answered` meets its contract.
 -- Assumes nothing.
-use native.Mathlib.Omega.{arith}
 use Rattle.spec.specs.Printed.{ascii, newline}
 use Rattle.printed.proofs.Solutions.{wrote-path, wrote-loop, wrote-bare, wrote-refused}
 use borrow.Author.Needs.{needs}

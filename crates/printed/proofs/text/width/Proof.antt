@@ -1,11 +1,11 @@
 -- `width` meets its contract. The invariant of its loop: the digits counted, and those left, are all.
 -- Assumes nothing.
-use Prim.Native.Nat.{_+_, _^_, _≤_, _<_}
+use Prim.Native.Nat.{_+_, _^_, _<_}
 use native.Mathlib.Omega.{arith}
 use mathlib.Core.Path.{_≡_}
 use lib.ListN.{length}
 use Rattle.spec.specs.Printed.{decimal}
-use Rattle.spec.proofs.PrintedLaws.{decimal-length, decimal-some}
+use Rattle.spec.proofs.PrintedLaws.{decimal-length}
 use Rattle.printed.proofs.Numbers.{width-more, width-one}
 use Rattle.printed.proofs.text.width.Statement.{statement}
 use Rattle.printed.proofs.text.width.Tie as tie
