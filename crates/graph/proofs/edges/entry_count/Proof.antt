@@ -12,7 +12,7 @@ cast-result : tie.Need-cast-result
 cast-result c = search needs
 
 returns : tie.Need-returns
-returns c = count-of-entries _ _ (c .before .entry-count .ensures)
+returns c = count-of-entries _ _ (c .entry-count .ensures)
 
 pub entry-count-spec : {M : Type 1} → statement M
 entry-count-spec = tie.close (tie.spec entry-count-requires cast-result returns)
