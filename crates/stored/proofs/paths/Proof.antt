@@ -1,0 +1,38 @@
+-- `paths` is safe and ends.
+-- Assumes nothing.
+use Prim.Native.Nat.{_≤_, _-_}
+use lib.ListN.{length}
+use borrow.Author.Needs.{needs}
+use Rattle.stored.proofs.paths.Statement.{statement}
+use Rattle.stored.proofs.paths.Tie as tie
+
+abbrev Inv-loop : tie.InvT-loop
+Inv-loop input records all₀ at₀ all at = at ≤ length records
+
+abbrev μ-loop : tie.MeasureT-loop
+μ-loop input records all₀ at₀ all at = length records - at
+
+pub paths-spec : {M : Type 1} → statement M
+paths-spec =
+    tie.close
+    (tie.spec
+    Inv-loop
+    μ-loop
+    (λ c. search needs)
+    (λ c. search needs)
+    (λ c. search needs)
+    (λ c. search needs)
+    (λ c. search needs)
+    (λ c. search needs)
+    (λ c. search needs)
+    (λ c κs. search needs)
+    (λ c. search needs)
+    (λ c. search needs)
+    (λ c. search needs)
+    (λ c. search needs)
+    (λ c. search needs)
+    (λ c. search needs)
+    (λ c. search needs)
+    (λ c. search needs)
+    (λ c κs. search needs)
+    (λ c. search needs))
