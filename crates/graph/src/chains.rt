@@ -47,7 +47,7 @@ fn named_edge(given: &[u8], k: u8) -> SolutionEdge
     }
 }
 
-// The record is a solution's.
+// The record is that of a solution.
 fn same_record(given: &[u8], s: Solution) -> bool
     ensures { λ r. ⌜ r ≡ sameList (now (given .entry)) (recordOctets s) ⌝ }
 {
@@ -175,7 +175,7 @@ fn three_lead(src: IsdAsn, dst: IsdAsn, e: Edge, f: Edge, g: Edge) -> bool
 
 // ---- chains of one, two and three edges
 
-// An edge that the record names.
+// An edge that was found, if it is a chain and the record is its.
 fn one_of(src: IsdAsn, dst: IsdAsn, given: &[u8], e: Edge) -> Chain
     ensures { λ r. ⌜ saidBy r ≡ (Accepted, passing src dst (now (given .entry)) ((e ∷ []) ∷ [])) ⌝ }
 {
@@ -188,6 +188,7 @@ fn one_of(src: IsdAsn, dst: IsdAsn, given: &[u8], e: Edge) -> Chain
     Chain::One(e)
 }
 
+// The edge that the record names.
 fn one(src: IsdAsn, dst: IsdAsn, book: &[u8], table: &[u16; PLACES], given: &[u8]) -> Chain
     requires { ⌜ Ready (now book) (now table) ⌝ }
     ensures { λ r. ⌜ saidBy r ≡ (Accepted, passing src dst (now (given .entry)) (withIdentities (now (book .entry)) (recordEdge (now (given .entry)) 0 ∷ []))) ⌝ }
