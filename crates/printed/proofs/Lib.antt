@@ -4,4 +4,5 @@ pub mod Rows
 pub mod Solutions
 pub mod Lengths
 pub mod Joined
+pub mod Cases
 pub mod Inputs

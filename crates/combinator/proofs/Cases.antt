@@ -1,0 +1,32 @@
+-- The tables of computed cases end to end: where a case asks for a list or a path, what an exported function returns and leaves, by its
+-- contract, is what stands beside the question. (The P cases that ask for the printed text are those of crate `printed`, proofs/Cases.)
+-- Assumes nothing.
+use Prim.Native.Nat.{ℕ}
+use mathlib.Core.Path.{_≡_, ap, _∙_}
+use mathlib.Core.List.{List, _∷_, List·Memᴰ as Mem}
+use Rattle.sha256.specs.Message.{sha256}
+use Rattle.spec.proofs.CasesForm.{list, assemble, case, answer}
+use Rattle.spec.proofs.Cases.{table}
+use Rattle.spec.proofs.AddedCases.{table as added, hashed}
+use Rattle.spec.proofs.CasesRead.{p-answer, added-answer, hashed-answer}
+use Rattle.combinator.specs.Exports.{Returned, numberedList, numberedPath, listReturned, pathReturned}
+
+-- the number, then the output's bytes
+abbrev bytes-of : Returned → List ℕ
+bytes-of x = x .0 ∷ x .1
+
+-- `combinator_list`: a P case, and a case with SHA-256 of the second table
+module _ (b : List ℕ) (src dst bytes : ℕ) (expected : List ℕ) (r : ℕ) (out : List ℕ) (q : _≡_ {A = Returned} (r, out) (listReturned b src dst bytes)) where
+  pub list-case : Mem (case (list b src dst bytes) expected) table → r ∷ out ≡ expected
+  unfolding answer listReturned numberedList
+  list-case m = ap bytes-of q ∙ p-answer sha256 (case (list b src dst bytes) expected) m
+
+  pub hashed-list-case : Mem (case (list b src dst bytes) expected) hashed → r ∷ out ≡ expected
+  unfolding answer listReturned numberedList
+  hashed-list-case m = ap bytes-of q ∙ hashed-answer (case (list b src dst bytes) expected) m
+
+-- `combinator_assemble`, which no digest concerns: a case of the second table
+pub assemble-case : (b : List ℕ) (src dst : ℕ) (given : List ℕ) (bytes : ℕ) (expected : List ℕ) (r : ℕ) (out : List ℕ)
+    → _≡_ {A = Returned} (r, out) (pathReturned b src dst given bytes) → Mem (case (assemble b src dst given bytes) expected) added → r ∷ out ≡ expected
+unfolding answer pathReturned numberedPath
+assemble-case b src dst given bytes expected r out q m = ap bytes-of q ∙ added-answer (case (assemble b src dst given bytes) expected) m
