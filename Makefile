@@ -87,7 +87,7 @@ FORCE:
 # A page's section is the last part of its name.
 page_to = $(DESTDIR)$(MANDIR)/man$(subst .,,$(suffix $(1)))/$(if $(filter .1,$(suffix $(1))),$(PROGRAM_PREFIX))$(notdir $(1))
 
-install: build/libcombinator.a target/bin/list
+install: build/libcombinator.a $(filter target/%,$(PROGRAMS))
 	install -d $(DESTDIR)$(LIBDIR)/pkgconfig $(DESTDIR)$(INCLUDEDIR) $(DESTDIR)$(PACKAGEDIR) $(DESTDIR)$(BINDIR)
 	install -m 644 build/libcombinator.a $(DESTDIR)$(LIBDIR)/libcombinator.a
 	install -m 644 include/combinator.h $(DESTDIR)$(INCLUDEDIR)/combinator.h
