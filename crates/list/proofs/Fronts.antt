@@ -15,15 +15,13 @@ use Rattle.spec.specs.Limits.{maxSlots, solutionSize}
 use Rattle.spec.specs.Basics.{range}
 use Rattle.spec.specs.Printed.{printed}
 use Rattle.spec.proofs.Lists.{range-suc, flatMap-append}
+use Rattle.output.specs.Write.{written}
 use Rattle.output.proofs.Writing.{written-within}
-use Rattle.path.specs.Places.{Wrote}
 use Rattle.printed.specs.Pieces.{listed, countOf, firstLine, slotText, pieces}
 use Rattle.printed.proofs.Joined.{counted-room, pieces-printed}
 
-pub wrote-front : (d xs d′ : List ℕ) (r : ℕ) → Wrote d 0 xs d′ r → r ≤ length d → take r d′ ≡ xs
-wrote-front d xs d′ r w h =
-    let e : r ≡ length xs = omega (arith, w .end) in
-    ap (take r) (w .bytes ∙ written-within d 0 xs (omega arith)) ∙ take-at xs (drop (0 + length xs) d) r (sym e)
+pub wrote-front : (d xs d′ : List ℕ) (r : ℕ) → d′ ≡ written d 0 xs → r ≡ length xs → r ≤ length d → take r d′ ≡ xs
+wrote-front d xs d′ r w e h = ap (take r) (w ∙ written-within d 0 xs (omega arith)) ∙ take-at xs (drop (0 + length xs) d) r (sym e)
 
 -- ---- each piece after those before it
 

@@ -26,12 +26,13 @@ use Rattle.spec.specs.Printed.{isPath, refusedLine}
 use Rattle.spec.proofs.Lists.{range-suc}
 use Rattle.spec.proofs.ChainLaws.{allowed-length}
 use Rattle.spec.proofs.LengthLaws.{solution-length}
-use Rattle.output.specs.Write.{zeroed}
+use Rattle.output.specs.Write.{written, zeroed}
 use Rattle.output.proofs.Writing.{zeroed-all}
 use Rattle.order.specs.Records.{recordAt}
 use Rattle.path.specs.Places.{Wrote}
 use Rattle.path.proofs.Writes.{wrote-none, wrote-as}
 use Rattle.printed.specs.Pieces.{solutionText, slotText, slotHasPath, pathsTo, listed, countsLine, firstBy, firstLine, firstLineSize, countOf}
+use Rattle.printed.specs.declared.Opening.{Opening}
 use Rattle.printed.specs.Opened.{Opened}
 use Rattle.printed.proofs.Solutions.{text-stranger, text-refused}
 use Rattle.printed.proofs.Joined.{counted-room}
@@ -170,3 +171,13 @@ module _ (input : List ℕ) (bytes : ℕ) (answer : ListAnswer) (records : List 
         line = wrote-as (sym (ap (λ a. firstBy input a records) e) ∙ ap (λ (x : Listed). firstBy input (x .0) (x .1)) q) (w .0);
         short = w .1;
       }
+
+-- ---- the two promises, field by field
+
+pub wrote-fields : {d xs d′ : List ℕ} {r most : ℕ} → Wrote d 0 xs d′ r → r ≤ most → (d′ ≡ written d 0 xs) × (r ≡ length xs) × (r ≤ most)
+wrote-fields w h = (w .bytes, omega (arith, w .end), h)
+
+pub opened-fields : {input : List ℕ} {bytes : ℕ} {records d d′ : List ℕ} {r : Opening} → Opened input bytes records d d′ r
+    → (records ≡ listed input bytes .1) × (r .solutions ≡ countOf (listed input bytes .0)) × (d′ ≡ written d 0 (firstLine input bytes))
+    × (r .length ≡ length (firstLine input bytes)) × (r .length ≤ firstLineSize)
+opened-fields o = (o .held, o .solutions, o .line .bytes, omega (arith, o .line .end), o .short)

@@ -1,10 +1,10 @@
 // The printed list, piece by piece, in a lent buffer: the first line, then the lines of each solution.
 // `proofs/Joined` says that the pieces, one after the other, are the list.
+ghost use mathlib.Core.Path.{_≡_};
 ghost use Prim.Native.Nat.{_≤_};
 ghost use lib.ListN.{length};
-ghost use Rattle.path.specs.Places.{Wrote};
-ghost use Rattle.printed.specs.Pieces.{slotText, solutionTextSize};
-ghost use Rattle.printed.specs.Opened.{Opened};
+ghost use Rattle.output.specs.Write.{written};
+ghost use Rattle.printed.specs.Pieces.{listed, countOf, firstLine, firstLineSize, slotText, solutionTextSize};
 
 mod first;
 mod lines;
@@ -28,7 +28,7 @@ pub struct Opening {
 // Lists the solutions of an input (source 8, destination 8, then the book) into `records`, and writes the
 // list's first line into `out`: their count and that of the paths, or a refusal.
 pub fn first_line(input: &[u8], records: &mut [u8], out: &mut [u8]) -> Opening
-    ensures { λ r. ⌜ Opened (now (input .entry)) (length (now (records .entry))) (now (records .exit)) (now (out .entry)) (now (out .exit)) r ⌝ }
+    ensures { λ r. ⌜ (now (records .exit) ≡ listed (now (input .entry)) (length (now (records .entry))) .1) × (r .solutions ≡ countOf (listed (now (input .entry)) (length (now (records .entry))) .0)) × (now (out .exit) ≡ written (now (out .entry)) 0 (firstLine (now (input .entry)) (length (now (records .entry))))) × (r .length ≡ length (firstLine (now (input .entry)) (length (now (records .entry))))) × (r .length ≤ firstLineSize) ⌝ }
 {
     let answer = slots::list(input, records);
     match answer {
@@ -53,7 +53,7 @@ pub fn first_line(input: &[u8], records: &mut [u8], out: &mut [u8]) -> Opening
 // Writes the lines of the solution whose record stands in slot k, and answers how long they are. A slot
 // that holds no solution's record has none.
 pub fn solution_lines(input: &[u8], records: &[u8], k: usize, out: &mut [u8]) -> usize
-    ensures { λ r. ⌜ Wrote (now (out .entry)) 0 (slotText (now (input .entry)) (now (records .entry)) k) (now (out .exit)) r × (r ≤ solutionTextSize) ⌝ }
+    ensures { λ r. ⌜ (now (out .exit) ≡ written (now (out .entry)) 0 (slotText (now (input .entry)) (now (records .entry)) k)) × (r ≡ length (slotText (now (input .entry)) (now (records .entry)) k)) × (r ≤ solutionTextSize) ⌝ }
 {
     if input.len() < slots::ENDS {
         return 0;
