@@ -40,9 +40,6 @@ use Rattle.graph.proofs.LookupScan.{when, any-first, first-passes, is-l
 use Rattle.graph.proofs.LookupLaws.{up-as, down-as, down-link, no-leaf, core-as, core-peering, core-leaving, none-stored, as-eq, eq-sameAs, as-not-peering}
 use Rattle.graph.proofs.LeavingLaws.{linked, peer-last, link-own}
 
-abbrev as-number : ℕ → IsdAsn
-as-number n = record { 0 = n }
-
 pub count-read : (b : List ℕ) (k : ℕ) → entryCount (segmentAt b k) ≡ entryCountAt b k
 unfolding entryCount
 count-read b k = segment-length b k
@@ -278,6 +275,9 @@ module _ (b : List ℕ) (a : verdict b ≡ Accepted) (k : ℕ) (h : k < segmentC
       omega (arith, ap (λ n. getD b n 0) e, count-read b k, entry-count b (accepted b a) k h)
 
 -- an AS of two halves
+abbrev as-number : ℕ → IsdAsn
+as-number n = record { 0 = n }
+
 pub as-halves : (b : List ℕ) (at : ℕ) {x y : ℕ} → x ≡ be32 b at → y ≡ be32 b (at + 4) → as-number (x * 4294967296 + y) ≡ isdAsnAt b at
 unfolding isdAsnAt
 as-halves b at p q = ap as-number (halves64 b at p q)
@@ -407,6 +407,32 @@ module _ (seg : Segment) {n : ℕ} (count : n ≡ entryCount seg) (none : n ≡ 
   pub empty-between : (v w : Vertex) → [] ≡ between seg v w
   unfolding between
   empty-between v w = sym (ap (filter (hasEnds v w)) (none-stored seg (sym count ∙ none)) ∙ unfold filter in refl)
+
+-- ---- a look at the leaf: no edge from a vertex to an AS
+
+module _ (seg : Segment) (nc : seg .core ≡ false) {n : ℕ} (count : n ≡ entryCount seg) (v : Vertex) (w : IsdAsn) where
+  past-none : (a : IsdAsn) {i : ℕ} → i ≡ entryWith seg a (n - 1) → ltb i (n - 1) ≡ false → asEdgeAt seg v (AS w) (entryWith seg a (n - 1)) ≡ []
+  past-none a {i} found none = let h : n - 1 ≤ i = ltb-false i (n - 1) none in sym (as-past seg v (AS w) (entryWith seg a (n - 1)) (omega arith))
+
+  module _ {leaf : IsdAsn} (last : leaf ≡ asOf seg (n - 1)) where
+    at-leaf : (a : IsdAsn) {u t : Bool} → u ≡ sameAs leaf a → u ≡ t → sameAs (leafAs seg) a ≡ t
+    at-leaf a p q = ap (λ x. sameAs x a) (sym (leaf-read seg count last)) ∙ sym p ∙ q
+
+    pub join-peering : {l p : IsdAsn} {i j : ℕ} {u : Bool} → v ≡ Peering l i p j → u ≡ sameAs leaf w → u ≡ false → between seg v (AS w) ≡ []
+    join-peering at p q = sym (from-none seg w nc n count (at-leaf w p q) v (λ e. as-not-peering (e ∙ at)))
+
+    module _ {a : IsdAsn} (at : v ≡ AS a) {u : Bool} (test : u ≡ sameAs leaf w) where
+      pub join-to : u ≡ true → {i : ℕ} → i ≡ entryWith seg a (n - 1) → ltb i (n - 1) ≡ false → between seg v (AS w) ≡ []
+      join-to q found none = sym (to-as seg w nc n count (at-leaf w test q) v a at) ∙ past-none a found none
+
+      pub join-from : u ≡ false → {t : Bool} → t ≡ sameAs leaf a → t ≡ true → {i : ℕ} → i ≡ entryWith seg w (n - 1) → ltb i (n - 1) ≡ false
+          → between seg v (AS w) ≡ []
+      join-from q p s found none =
+          sym (from-as seg w nc n count (at-leaf w test q) v (at ∙ ap AS (sym (sameAs-eq _ _ (at-leaf a p s))))) ∙ past-none w found none
+
+      pub join-none : u ≡ false → {t : Bool} → t ≡ sameAs leaf a → t ≡ false → between seg v (AS w) ≡ []
+      join-none q p s =
+          sym (from-none seg w nc n count (at-leaf w test q) v (λ e. not-both (eq-sameAs _ _ (as-eq (e ∙ at))) (at-leaf a p s)))
 
 -- ---- an AS that no entry of a non-core segment has
 

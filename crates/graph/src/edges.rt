@@ -2,6 +2,7 @@
 // vertices, and what it stores that leaves one.
 ghost use mathlib.Core.Path.{_≡_};
 ghost use mathlib.Core.Bool.{true, false, _&&_};
+ghost use mathlib.Core.List.{[]};
 ghost use Prim.Native.Nat.{_+_, _*_, _-_, _^_, _≤_, _<_};
 ghost use lib.ListN.{length, getD};
 ghost use Rattle.spec.specs.declared.Vertex.the-variants.{AS};
@@ -524,6 +525,31 @@ pub(crate) fn between(book: &[u8], table: &[u16; PLACES], k: u8, v: Vertex, w: I
         return to_leaf(book, table, k, n, v, w);
     }
     from_leaf(book, table, k, n, leaf, v, w)
+}
+
+// A look before `between`: false where a non-core segment stores no edge from a vertex to an AS. Most store none, and
+// the look makes no answer to copy.
+pub(crate) fn may_join(book: &[u8], table: &[u16; PLACES], k: u8, v: Vertex, w: IsdAsn) -> bool
+    requires { ⌜ Ready (now book) (now table) ⌝ }
+    requires { ⌜ k < segmentCount (now book) ⌝ }
+    requires { ⌜ segmentAt (now book) k .core ≡ false ⌝ }
+    ensures { λ r. ⌜ (r ≡ false → between (segmentAt (now (book .entry)) k) v (AS w) ≡ []) ⌝ }
+{
+    let n = count_of(book, k);
+    if n == 0 {
+        return false;
+    }
+    let leaf = as_at(book, table, k, n - 1);
+    let Vertex::AS(a) = v else {
+        return same_as(leaf, w);
+    };
+    if same_as(leaf, w) {
+        return find_as(book, table, k, a, n - 1) < n - 1;
+    }
+    if same_as(leaf, a) {
+        return find_as(book, table, k, w, n - 1) < n - 1;
+    }
+    false
 }
 
 // ---- from a vertex
