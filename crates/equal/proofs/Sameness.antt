@@ -3,17 +3,19 @@
 use mathlib.Core.Path.{_≡_, refl, sym, ap, ap₂, _∙_}
 use mathlib.Core.Bool.{Bool, true, false, _&&_, not}
 use mathlib.Core.List.{List, [], _∷_, map}
-use Prim.Native.Nat.{ℕ, suc, _+_, _-_, _≤_, _<_, min}
+use Prim.Native.Nat.{ℕ, zero, suc, _+_, _-_, _*_, _^_, _≤_, _<_, min}
 use native.Mathlib.Omega.{arith}
 use lib.ListN.{length, getD, take, drop, length-take, length-drop, drop-of-length-le}
 use lib.Seq.{drop-cons, take-all}
 use lib.Dec.{ltb, eqb}
 use borrow.Author.Tests.{lt-ltb, le-ltb, ltb-true, ltb-false, eq-eqb, ne-eqb}
+use Rattle.spec.specs.Limits.{sizesSize, headSize}
+use Rattle.spec.specs.Octets.{be16}
 use Rattle.spec.specs.Basics.{any, range, sameList}
-use Rattle.spec.specs.Book.{cores, segmentCount, timestampAt, idAt, bodyLengthAt, bodyOffset, segmentAt, segments}
+use Rattle.spec.specs.Book.{cores, segmentCount, headOffset, timestampAt, idAt, bodyLengthAt, bodyOffset, segmentAt, segments}
 use Rattle.spec.specs.Edges.{sameBool, sameSegment, isEarlier, isFirst}
 use Rattle.equal.specs.Same.{sameParts}
-use Rattle.segment.proofs.Positions.{one-less, any-none, any-done}
+use Rattle.segment.proofs.Positions.{one-less, any-next, any-none, any-done}
 
 -- ---- bytes
 
@@ -200,3 +202,41 @@ module _ (b : List ℕ) (k j : ℕ) {count all : ℕ} (ec : count ≡ min k all)
 
   pub repeats-done : count ≤ j → any (repeats b k) (range j (segmentCount b - j)) ≡ false
   repeats-done h = none-from b k j (segmentCount b) (omega arith)
+
+-- ---- positions that are passed over
+
+-- the id, of the two bytes that the code read
+id-is : (b : List ℕ) (j : ℕ) {x y : ℕ} → x ≡ getD b (sizesSize + headSize * j + 4) 0 → y ≡ getD b (sizesSize + headSize * j + 4 + 1) 0 → x * 2 ^ 8 + y ≡ idAt b j
+unfolding idAt headOffset be16
+id-is b j p q = ap₂ (λ u v. u * 2 ^ 8 + v) p q
+
+-- the positions from an earlier one up to j, and j itself, have other ids
+pub none-more : (b : List ℕ) (from j : ℕ) {x y own : ℕ} → ((i : ℕ) → from ≤ i → i < j → idAt b i ≡ own → ⊥)
+    → x ≡ getD b (sizesSize + headSize * j + 4) 0 → y ≡ getD b (sizesSize + headSize * j + 4 + 1) 0 → (x * 2 ^ 8 + y ≡ own → ⊥)
+    → (i : ℕ) → from ≤ i → i < j + 1 → idAt b i ≡ own → ⊥
+none-more b from j {x} {y} {own} none p q d i l h = go (ltb i j) refl
+  where
+    go : (t : Bool) → ltb i j ≡ t → idAt b i ≡ own → ⊥
+    go true e r = none i l (ltb-true _ _ e) r
+    go false e r =
+        let g : j ≤ i = ltb-false _ _ e in
+        let s : i ≡ j = omega arith in
+        d (id-is b j p q ∙ sym (ap (idAt b) s) ∙ r)
+
+-- a test that fails from i up to j
+any-skip : (p : ℕ → Bool) (n i j : ℕ) → i ≤ j → j ≤ n → ((m : ℕ) → i ≤ m → m < j → p m ≡ false) → any p (range i (n - i)) ≡ any p (range j (n - j))
+any-skip p n i j h g none = go (j - i) i (omega arith) none
+  where
+    go : (d i : ℕ) → i + d ≡ j → ((m : ℕ) → i ≤ m → m < j → p m ≡ false) → any p (range i (n - i)) ≡ any p (range j (n - j))
+    go zero i e f =
+        let q : i ≡ j = omega arith in
+        ap (λ m. any p (range m (n - m))) q
+    go (suc d) i e f = any-next p n i (omega arith) (f i (omega arith) (omega arith)) ∙ go d (i + 1) (omega arith) (λ m a l. f m (omega arith) l)
+
+-- positions with other ids do not repeat the segment at k
+pub ids-skipped : (b : List ℕ) (k i j : ℕ) {count all own : ℕ} → count ≡ min k all → all ≡ segmentCount b → own ≡ idAt b k
+    → i ≤ j → j ≤ count → ((m : ℕ) → i ≤ m → m < j → idAt b m ≡ own → ⊥)
+    → any (repeats b k) (range i (segmentCount b - i)) ≡ any (repeats b k) (range j (segmentCount b - j))
+ids-skipped b k i j ec ea eo h g none =
+    any-skip (repeats b k) (segmentCount b) i j h (omega arith) (λ m a l.
+    repeats-is b k m (omega arith) ∙ other-id b k m eo refl (λ e. none m a l (sym e)))

@@ -1,9 +1,10 @@
 // Equal segments: of the same kind, timestamp, id and body. They count once, under the first position.
 // Every function answers for any bytes: what lies past the book's end reads as 0.
 ghost use mathlib.Core.Path.{_≡_};
-ghost use Prim.Native.Nat.{_+_, _^_, _≤_, _<_, min};
+ghost use Prim.Native.Nat.{ℕ, _+_, _-_, _*_, _^_, _≤_, _<_, min};
 ghost use lib.ListN.{length};
 ghost use lib.Dec.{ltb};
+ghost use Rattle.spec.specs.Limits.{sizesSize, headSize};
 ghost use Rattle.spec.specs.Book.{cores, timestampAt, idAt, segmentAt, segments};
 ghost use Rattle.spec.specs.Edges.{sameBool, sameSegment, isFirst};
 ghost use Rattle.equal.specs.Same.{sameParts};
@@ -14,6 +15,12 @@ fn wide(x: u16) -> usize
     ensures { λ r. ⌜ (r ≡ x) × (r < 2 ^ 16) ⌝ }
 {
     x as usize
+}
+
+fn wide16(b: u8) -> u16
+    ensures { λ r. ⌜ (r ≡ b) × (r < 256) ⌝ }
+{
+    b as u16
 }
 
 fn least(a: usize, b: usize) -> usize
@@ -100,21 +107,50 @@ pub fn same_segment(book: &[u8], j: u8, k: u8) -> bool
     same_rest(book, j, k)
 }
 
+// `count`, if so many heads lie in n bytes, or else 0.
+fn heads_within(n: usize, count: usize) -> usize
+    requires { ⌜ count < 2 ^ 32 ⌝ }
+    ensures { λ r. ⌜ (r ≤ count) × (0 < r → sizesSize + headSize * r ≤ n) ⌝ }
+{
+    if Sizes::SIZE + Head::SIZE * count <= n {
+        return count;
+    }
+    0
+}
+
+// From a position on, the first below `end` that has the id, or `end`.
+fn next_with(book: &[u8], id: u16, from: usize, end: usize) -> usize
+    requires { ⌜ (end < 2 ^ 32) × (0 < end → sizesSize + headSize * end ≤ length (now book)) ⌝ }
+    ensures { λ r. ⌜ (from ≤ r) × (r ≤ from + (end - from)) × ((i : ℕ) → from ≤ i → i < r → idAt (now (book .entry)) i ≡ id → ⊥) ⌝ }
+{
+    let mut j = from;
+    while j < end {
+        let at = Sizes::SIZE + Head::SIZE * j + 4;
+        if wide16(book[at]) * 256 + wide16(book[at + 1]) == id {
+            return j;
+        }
+        j += 1;
+    }
+    j
+}
+
 // No equal segment of the book stands at a lower position. Few segments have the id of another, so that
 // little more than ids is read.
 pub fn is_first(book: &[u8], k: u8) -> bool
     ensures { λ r. ⌜ r ≡ isFirst (segments (now (book .entry))) (segmentAt (now (book .entry)) k) ⌝ }
 {
-    let count = least(k as usize, segment::segment_count(book)) as u8;
+    let count = least(k as usize, segment::segment_count(book));
     let own = segment::id(book, k);
-    let mut j: u8 = 0;
+    let end = heads_within(book.len(), count);
+    let mut j = next_with(book, own, 0, end);
     while j < count {
-        if segment::id(book, j) == own {
-            if same_rest(book, k, j) {
+        let other = j as u8;
+        if segment::id(book, other) == own {
+            if same_rest(book, k, other) {
                 return false;
             }
         }
-        j += 1;
+        j = next_with(book, own, j + 1, end);
     }
     true
 }

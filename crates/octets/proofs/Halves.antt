@@ -13,10 +13,6 @@ module _ (b : List ℕ) (at : ℕ) {x y : ℕ} where
   unfolding be16
   halves16 p q = ap₂ (λ u v. u * 2 ^ 8 + v) p q
 
-  halves32 : x ≡ be16 b at → y ≡ be16 b (at + 2) → x * 2 ^ 16 + y ≡ be32 b at
-  unfolding be32
-  halves32 p q = ap₂ (λ u v. u * 2 ^ 16 + v) p q
-
   pub halves64 : x ≡ be32 b at → y ≡ be32 b (at + 4) → x * 2 ^ 32 + y ≡ be64 b at
   unfolding be64
   halves64 p q = ap₂ (λ u v. u * 2 ^ 32 + v) p q
@@ -27,13 +23,21 @@ four-bytes b at =
     let e : at + 2 + 1 ≡ at + 3 = omega arith in
     omega (arith, ap (λ i. getD b i 0) e)
 
--- i past a place, where the code adds the second half's distance to i
+-- i past a place, where the code adds a part's distance to i
 module _ (b : List ℕ) (at i : ℕ) {x y : ℕ} where
   pub past16 : x ≡ getD b (at + i) 0 → y ≡ getD b (at + (i + 1)) 0 → x * 2 ^ 8 + y ≡ be16 b (at + i)
   past16 p q = halves16 b (at + i) p (q ∙ ap (λ n. getD b n 0) (sym (add-assoc at i 1)))
 
-  pub past32 : x ≡ be16 b (at + i) → y ≡ be16 b (at + (i + 2)) → x * 2 ^ 16 + y ≡ be32 b (at + i)
-  past32 p q = halves32 b (at + i) p (q ∙ ap (be16 b) (sym (add-assoc at i 2)))
-
   pub past64 : x ≡ be32 b (at + i) → y ≡ be32 b (at + (i + 4)) → x * 2 ^ 32 + y ≡ be64 b (at + i)
   past64 p q = halves64 b (at + i) p (q ∙ ap (be32 b) (sym (add-assoc at i 4)))
+
+  pub past-four : {u v : ℕ} → x ≡ getD b (at + i) 0 → y ≡ getD b (at + (i + 1)) 0 → u ≡ getD b (at + (i + 2)) 0 → v ≡ getD b (at + (i + 3)) 0
+      → x * 16777216 + y * 65536 + u * 256 + v ≡ be32 b (at + i)
+  past-four p q r s =
+      omega (
+        arith,
+        four-bytes b (at + i),
+        ap (λ n. getD b n 0) (add-assoc at i 1),
+        ap (λ n. getD b n 0) (add-assoc at i 2),
+        ap (λ n. getD b n 0) (add-assoc at i 3),
+      )

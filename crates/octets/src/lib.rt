@@ -71,16 +71,10 @@ fn wide16(b: u8) -> u16
     b as u16
 }
 
-fn byte32(b: u8) -> u32
+fn wide32(b: u8) -> u32
     ensures { λ r. ⌜ (r ≡ b) × (r < 256) ⌝ }
 {
     b as u32
-}
-
-fn wide32(x: u16) -> u32
-    ensures { λ r. ⌜ (r ≡ x) × (r < 65536) ⌝ }
-{
-    x as u32
 }
 
 fn wide64(x: u32) -> u64
@@ -113,10 +107,10 @@ fn within32(s: &[u8], at: usize) -> u32
     requires { ⌜ at + 4 ≤ length (now s) ⌝ }
     ensures { λ r. ⌜ r ≡ be32 (now (s .entry)) at ⌝ }
 {
-    byte32(s[at]) * 16777216
-        + byte32(s[at + 1]) * 65536
-        + byte32(s[at + 2]) * 256
-        + byte32(s[at + 3])
+    wide32(s[at]) * 16777216
+        + wide32(s[at + 1]) * 65536
+        + wide32(s[at + 2]) * 256
+        + wide32(s[at + 3])
 }
 
 fn within64(s: &[u8], at: usize) -> u64
@@ -158,7 +152,7 @@ fn read32(s: &[u8], at: usize, i: usize) -> u32
     if inside(s.len(), at, i + 4) {
         return within32(s, at + i);
     }
-    wide32(read16(s, at, i)) * 65536 + wide32(read16(s, at, i + 2))
+    cut32(s, at, i)
 }
 
 fn read64(s: &[u8], at: usize, i: usize) -> u64
@@ -168,5 +162,17 @@ fn read64(s: &[u8], at: usize, i: usize) -> u64
     if inside(s.len(), at, i + 8) {
         return within64(s, at + i);
     }
-    wide64(read32(s, at, i)) * 4294967296 + wide64(read32(s, at, i + 4))
+    wide64(cut32(s, at, i)) * 4294967296 + wide64(cut32(s, at, i + 4))
+}
+
+// Four bytes of which the slice may lack some.
+fn cut32(s: &[u8], at: usize, i: usize) -> u32
+    requires { ⌜ i + 4 ≤ 512 ⌝ }
+    ensures { λ r. ⌜ r ≡ be32 (now (s .entry)) (at + i) ⌝ }
+{
+    let a = wide32(read8(s, at, i));
+    let b = wide32(read8(s, at, i + 1));
+    let c = wide32(read8(s, at, i + 2));
+    let d = wide32(read8(s, at, i + 3));
+    a * 16777216 + b * 65536 + c * 256 + d
 }

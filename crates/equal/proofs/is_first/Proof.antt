@@ -9,46 +9,68 @@ use Rattle.spec.specs.Basics.{any, range}
 use Rattle.spec.specs.Book.{segmentCount, segmentAt, segments}
 use Rattle.spec.specs.Edges.{isFirst}
 use Rattle.segment.proofs.Positions.{any-here, any-next}
-use Rattle.equal.proofs.Sameness.{repeats, repeats-is, first-all, other-id, below-both, repeats-done}
+use Rattle.equal.proofs.Sameness.{repeats, repeats-is, first-all, other-id, below-both, repeats-done, ids-skipped}
 use borrow.Author.Needs.{needs}
 use Rattle.equal.proofs.is_first.Statement.{statement}
 use Rattle.equal.proofs.is_first.Tie as tie
 
 abbrev Inv-loop : tie.InvT-loop
-Inv-loop book k count own j₀ j = (j ≤ count) × (isFirst (segments book) (segmentAt book k) ≡ not (any (repeats book k) (range j (segmentCount book - j))))
+Inv-loop book k count own end j₀ j = (j ≤ count) × (isFirst (segments book) (segmentAt book k) ≡ not (any (repeats book k) (range j (segmentCount book - j))))
 
 abbrev μ-loop : tie.MeasureT-loop
-μ-loop book k count own j₀ j = count - j
+μ-loop book k count own end j₀ j = count - j
+
+heads-within-requires : tie.Need-heads-within-requires Inv-loop μ-loop
+heads-within-requires c κs = omega arith
+
+next-with-requires : tie.Need-next-with-requires Inv-loop μ-loop
+next-with-requires c κs = (omega arith, c .heads-within .ensures .1)
 
 loop-holds : tie.Need-loop-holds Inv-loop μ-loop
-loop-holds c = (omega arith, first-all _ _)
+loop-holds c =
+    let n = c .next-with .ensures in
+    (omega arith, first-all _ _ ∙ ap not (ids-skipped _ _ 0 _ (c .before .before .before .least .ensures) (c .before .before .before .before .segment-count .ensures .0) (c .before .before .id .ensures) (n .0) (omega arith) (n .2)))
+
+cast-other : tie.Need-cast-other Inv-loop μ-loop
+cast-other c = omega arith
 
 same-rest-requires : tie.Need-same-rest-requires Inv-loop μ-loop
-same-rest-requires c κs = sym (c .if1 .taken ∙ c .before .before .before .before .id .ensures) ∙ c .before .id2 .ensures
+same-rest-requires c κs = sym (c .if1 .taken ∙ c .before .before .before .before .before .before .id .ensures) ∙ c .before .id2 .ensures
 
 returns : tie.Need-returns Inv-loop μ-loop
 returns c =
     let l = c .before .before .before .before .before in
-    let below = below-both _ _ _ (l .before .before .least .ensures) (l .before .before .before .segment-count .ensures .0) (c .before .before .before .before .loop-test .taken) in
+    let below = below-both _ _ _ (l .before .before .before .before .least .ensures) (l .before .before .before .before .before .segment-count .ensures .0) (c .before .before .before .before .loop-test .taken) in
     sym (l .loop .inv .1 ∙ ap not (any-here _ _ _ (below .1) (repeats-is _ _ _ (below .0) ∙ sym (c .before .same-rest .ensures) ∙ c .if2 .taken)))
+
+add-next-with : tie.Need-add-next-with Inv-loop μ-loop
+add-next-with c = omega arith
+
+next-with-requires-2 : tie.Need-next-with-requires-2 Inv-loop μ-loop
+next-with-requires-2 c κs = (omega arith, c .before .before .before .before .before .heads-within .ensures .1)
+
+loop-less : tie.Need-loop-less Inv-loop μ-loop
+loop-less c = omega arith
 
 loop-again : tie.Need-loop-again Inv-loop μ-loop
 loop-again c =
-    let l = c .before .before .before in
-    let a = l .before .before .before .before .before .args in
-    let below = below-both (a .book .now) (a .k) (l .loop .j) (l .before .before .least .ensures) (l .before .before .before .segment-count .ensures .0) (c .before .before .loop-test .taken) in
+    let l = c .before .before .before .before in
+    let a = l .before .before .before .before .before .before .before .args in
+    let n = c .next-with2 .ensures in
+    let below = below-both (a .book .now) (a .k) (l .loop .j) (l .before .before .before .before .least .ensures) (l .before .before .before .before .before .segment-count .ensures .0) (c .before .before .before .loop-test .taken) in
     let r : repeats (a .book .now) (a .k) (l .loop .j) ≡ false =
     repeats-is _ _ _ (below .0)
     ∙ ⊎-elim
     (λ w. sym (w .1 .ensures) ∙ w .2 .left)
-    (λ w. other-id _ _ _ (l .before .id .ensures) (c .before .id2 .ensures) (λ e. w .left (sym e)))
-    (c .if1 .came) in
-    (omega arith, l .loop .inv .1 ∙ ap not (any-next _ _ _ (below .1) r))
+    (λ w. other-id _ _ _ (l .before .before .before .id .ensures) (c .before .before .id2 .ensures) (λ e. w .left (sym e)))
+    (c .before .if1 .came) in
+    let skipped = ids-skipped _ _ _ _ (l .before .before .before .before .least .ensures) (l .before .before .before .before .before .segment-count .ensures .0) (l .before .before .before .id .ensures) (n .0) (omega arith) (n .2) in
+    (omega arith, l .loop .inv .1 ∙ ap not (any-next _ _ _ (below .1) r ∙ skipped))
 
 returns-2 : tie.Need-returns-2 Inv-loop μ-loop
 returns-2 c =
     let l = c .before in
-    sym (l .loop .inv .1 ∙ ap not (repeats-done _ _ _ (l .before .before .least .ensures) (l .before .before .before .segment-count .ensures .0) (c .loop-test .left)))
+    sym (l .loop .inv .1 ∙ ap not (repeats-done _ _ _ (l .before .before .before .before .least .ensures) (l .before .before .before .before .before .segment-count .ensures .0) (c .loop-test .left)))
 
 pub is-first-spec : {M : Type 1} → statement M
 is-first-spec =
@@ -58,13 +80,16 @@ is-first-spec =
     μ-loop
     (λ c κs. search needs)
     (λ c κs. search needs)
-    (λ c. search needs)
     (λ c κs. search needs)
+    heads-within-requires
+    next-with-requires
     loop-holds
+    cast-other
     (λ c κs. search needs)
     same-rest-requires
     returns
-    (λ c. search needs)
-    (λ c. search needs)
+    add-next-with
+    next-with-requires-2
+    loop-less
     loop-again
     returns-2)

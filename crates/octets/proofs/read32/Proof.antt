@@ -1,8 +1,6 @@
 -- `octets::read32` meets its contract.
 -- Assumes nothing.
-use mathlib.Core.Path.{_∙_}
 use native.Mathlib.Omega.{arith}
-use Rattle.octets.proofs.Halves.{past32}
 use borrow.Author.Needs.{needs}
 use Rattle.octets.proofs.read32.Statement.{statement}
 use Rattle.octets.proofs.read32.Tie as tie
@@ -12,10 +10,6 @@ add-within32 c = omega (arith, c .before .inside .ensures .0 (c .if1 .taken))
 
 within32-requires : tie.Need-within32-requires
 within32-requires c κs = omega (arith, c .before .inside .ensures .0 (c .if1 .taken))
-
-returns-2 : tie.Need-returns-2
-returns-2 c =
-    past32 _ _ _ (c .before .before .wide32 .ensures .0 ∙ c .before .before .before .read16 .ensures) (c .wide322 .ensures .0 ∙ c .before .read162 .ensures)
 
 pub read32-spec : {M : Type 1} → statement M
 read32-spec =
@@ -27,10 +21,4 @@ read32-spec =
     within32-requires
     (λ c. search needs)
     (λ c κs. search needs)
-    (λ c κs. search needs)
-    (λ c. search needs)
-    (λ c. search needs)
-    (λ c κs. search needs)
-    (λ c κs. search needs)
-    (λ c. search needs)
-    returns-2)
+    (λ c. search needs))

@@ -14,8 +14,7 @@ within64-requires : tie.Need-within64-requires
 within64-requires c κs = omega (arith, c .before .inside .ensures .0 (c .if1 .taken))
 
 returns-2 : tie.Need-returns-2
-returns-2 c =
-    past64 _ _ _ (c .before .before .wide64 .ensures .0 ∙ c .before .before .before .read32 .ensures) (c .wide642 .ensures .0 ∙ c .before .read322 .ensures)
+returns-2 c = past64 _ _ _ (c .before .before .wide64 .ensures .0 ∙ c .before .before .before .cut32 .ensures) (c .wide642 .ensures .0 ∙ c .before .cut322 .ensures)
 
 pub read64-spec : {M : Type 1} → statement M
 read64-spec =
