@@ -7,6 +7,7 @@ pub mod SearchLists
 pub mod SearchLaws
 pub mod SearchFound
 pub mod SearchTurns
+pub mod SearchPlan
 pub mod SearchBounds
 pub mod PushedLaws
 pub mod PushedRecords

@@ -245,11 +245,14 @@ pub entry-test : (seg : Segment) (a : IsdAsn) (i : ℕ) {x : IsdAsn} {u v : Bool
 unfolding isEntryOf
 entry-test seg a i p q s = ap (λ y. sameAs y a) (sym p) ∙ sym q ∙ s
 
-pub linked-yes : (seg : Segment) (v : Vertex) (i : ℕ) {q : ℕ} → q ≡ peerLinked seg v i → 0 < q → hasLink seg v i ≡ true
-linked-yes seg v i {q} p s = linked seg v i ∙ ap (ltb 0) (sym p) ∙ lt-ltb 0 q s
+-- an entry has a link: its AS is the link's, and a peer has it
+module _ (seg : Segment) (l : Link) (i : ℕ) where
+  pub link-other : {x : IsdAsn} {u : Bool} → x ≡ asOf seg i → u ≡ sameAs x (l .local) → u ≡ false → false ≡ hasLink seg (endOf l) i
+  link-other p q s =
+      ap (ltb 0) (link-none seg l i (ap (λ y. sameAs y (l .local)) (sym p) ∙ sym q ∙ s)) ∙ sym (linked seg (endOf l) i)
 
-pub linked-no : (seg : Segment) (v : Vertex) (i : ℕ) {q : ℕ} → q ≡ peerLinked seg v i → q ≤ 0 → hasLink seg v i ≡ false
-linked-no seg v i {q} p s = linked seg v i ∙ ap (ltb 0) (sym p) ∙ le-ltb 0 q s
+  pub link-told : {q : ℕ} → q ≡ peerLinked seg (endOf l) i → ltb 0 q ≡ hasLink seg (endOf l) i
+  link-told p = ap (ltb 0) p ∙ sym (linked seg (endOf l) i)
 
 pub has-read : (seg : Segment) (a : IsdAsn) {n i : ℕ} → n ≡ entryCount seg → i ≡ entryWith seg a n → ltb i n ≡ hasAs seg a
 unfolding hasAs

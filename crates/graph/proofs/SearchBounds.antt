@@ -1,12 +1,10 @@
--- What the loops of the search count is small, and the classes that they test.
+-- What the loops of the search count is small.
 -- Assumes nothing.
 use Prim.Native.Nat.{ℕ, _+_, _≤_, _<_}
-use native.Mathlib.Decide.{ℕ-discrete}
 use native.Mathlib.Omega.{arith}
-use mathlib.Core.Path.{_≡_, refl, sym, ap, ap₂, _∙_}
+use mathlib.Core.Path.{_≡_, ap, ap₂, _∙_}
 use mathlib.Core.List.{List}
-use lib.ListN.{length, getD, set, length-map}
-use lib.Seq.{getD-set-same, getD-set-other}
+use lib.ListN.{length, length-map}
 use Rattle.spec.specs.declared.Verdict.the-variants.{Accepted}
 use Rattle.spec.specs.declared.Sizes.{Sizes}
 use Rattle.spec.specs.Limits.{maxEntries, maxPeers, maxSegments}
@@ -34,15 +32,6 @@ module _ (b : List ℕ) (ok : verdict b ≡ Accepted) where
       let e : length (entryOf (segmentAt b k) i .peers) ≡ peerCount b at =
       ap (λ (x : Entry). length (x .peers)) (entry-at b k i j) ∙ length-map (range 0 (peerCount b at)) (peerOfEntryAt b at) ∙ length-range 0 (peerCount b at) in
       omega (arith, entry-place b (accepted b ok) k h i j .few)
-
--- one class more
-pub class-more : (classes : List ℕ) (k v : ℕ) (f : ℕ → ℕ) → k < length classes → ((j : ℕ) → j < k → getD classes j 0 ≡ f j) → v ≡ f k
-    → (j : ℕ) → j < k + 1 → getD (set classes k v) j 0 ≡ f j
-class-more classes k v f h below q j l = go (ℕ-discrete k j)
-  where
-    go : Dec (k ≡ j) → getD (set classes k v) j 0 ≡ f j
-    go (yes e) = ap (λ i. getD (set classes k v) i 0) (sym e) ∙ getD-set-same classes k v 0 h ∙ q ∙ ap f e
-    go (no n) = getD-set-other classes k j v 0 (λ e. n (sym e)) ∙ below j (omega arith)
 
 -- the book's sizes as the search holds them
 pub record Counted (b : List ℕ) (c n : ℕ) : Type 0 where

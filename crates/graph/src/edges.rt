@@ -12,7 +12,7 @@ ghost use Rattle.spec.specs.Octets.{be16, be32};
 ghost use Rattle.spec.specs.Book.{segmentAt, segmentCount, verdict, isdAsnAt, peerCount, peerEntryAt, peerOffset};
 ghost use Rattle.spec.specs.Edges.{sameAs, sameVertex, asOf, leafAs, inConstruction};
 ghost use Rattle.graph.specs.Lookup.{between, leavingOf, foundEdges};
-ghost use Rattle.graph.specs.Leaving.{entryCount, peerCountOf, linkOf, asUp, peerUp};
+ghost use Rattle.graph.specs.Leaving.{entryCount, peerCountOf, linkOf, hasLink, asUp, peerUp};
 ghost use Rattle.graph.specs.Scan.{joins, entryWith, hasAs, entryLinked, peerLinked, asEdgeAt, downPeerEdge};
 ghost use Rattle.graph.specs.Link.{endOf, farEndOf, samePeer};
 ghost use Rattle.graph.specs.Ready.{Ready, Filled};
@@ -304,6 +304,19 @@ fn find_peer(book: &[u8], table: &[u16; PLACES], k: u8, i: u8, link: Link) -> u8
     0
 }
 
+// A peer of entry i has a link. Most entries are passed over after a look at their AS.
+fn has_link(book: &[u8], table: &[u16; PLACES], k: u8, i: u8, link: Link) -> bool
+    requires { ⌜ Ready (now book) (now table) ⌝ }
+    requires { ⌜ k < segmentCount (now book) ⌝ }
+    requires { ⌜ i < entryCount (segmentAt (now book) k) ⌝ }
+    ensures { λ r. ⌜ r ≡ hasLink (segmentAt (now (book .entry)) k) (endOf link) i ⌝ }
+{
+    if !same_as(as_at(book, table, k, i), link.local) {
+        return false;
+    }
+    find_peer(book, table, k, i, link) > 0
+}
+
 // The first of the entries below n that has a peer with a link; n where none has.
 fn find_linked(book: &[u8], table: &[u16; PLACES], k: u8, link: Link, n: u8) -> u8
     requires { ⌜ Ready (now book) (now table) ⌝ }
@@ -313,7 +326,7 @@ fn find_linked(book: &[u8], table: &[u16; PLACES], k: u8, link: Link, n: u8) -> 
 {
     let mut i: u8 = 0;
     while i < n {
-        if find_peer(book, table, k, i, link) > 0 {
+        if has_link(book, table, k, i, link) {
             return i;
         }
         i += 1;

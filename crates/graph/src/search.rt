@@ -4,16 +4,17 @@ ghost use mathlib.Core.Path.{_≡_};
 ghost use mathlib.Core.Bool.{false};
 ghost use mathlib.Core.List.{flatMap};
 ghost use Prim.Native.Nat.{ℕ, _-_, _≤_, _<_};
+ghost use lib.Dec.{ltb};
 ghost use Rattle.spec.specs.declared.Verdict.the-variants.{Accepted};
 ghost use Rattle.spec.specs.Limits.{maxSegments};
-ghost use Rattle.spec.specs.Basics.{range};
+ghost use Rattle.spec.specs.Basics.{if_then_else_, range};
 ghost use Rattle.spec.specs.Book.{segmentAt, segments, segmentCount, cores};
 ghost use Rattle.graph.specs.Lookup.{foundEdges};
 ghost use Rattle.graph.specs.Leaving.{entryCount, peerCountOf, peerUp, upsAt};
 ghost use Rattle.graph.specs.Search.{overFirsts, chainsFrom, triplesIn, acrossWith, chainsWith, chainsIn, foundChains};
 ghost use Rattle.graph.specs.Pushed.{Room, Pushes};
 ghost use Rattle.graph.specs.Ready.{Ready};
-ghost use Rattle.graph.specs.Prepared.{classOf, Classed, Prepared};
+ghost use Rattle.graph.specs.Prepared.{classOf, Planned, Prepared};
 use crate::Found;
 use crate::edges;
 use crate::edges::PLACES;
@@ -22,6 +23,12 @@ use spec::Edge;
 use spec::IsdAsn;
 use spec::Limits;
 use spec::Vertex;
+
+// What is worked out before the search: the class of each position, and then, for each and for the one past the last,
+// the next position of class 2 from there on, by which the loops over last edges go.
+const NEXT: usize = Limits::SEGMENTS;
+
+const PLAN: usize = 2 * Limits::SEGMENTS + 1;
 
 // What the loops share: how many segments are core, how many there are, where chains arrive, how many slots there are.
 struct Query {
@@ -64,27 +71,25 @@ fn triple_in(
 fn triples(
     book: &[u8],
     table: &[u16; PLACES],
-    classes: &[u8; Limits::SEGMENTS],
+    plan: &[u8; PLAN],
     q: Query,
     e: Edge,
     f: Edge,
     out: &mut [u8],
     start: usize,
 ) -> usize
-    requires { ⌜ Prepared (now book) (now table) (now classes) (q .dst) (q .cores) (q .count) ⌝ }
+    requires { ⌜ Prepared (now book) (now table) (now plan) (q .dst) (q .cores) (q .count) ⌝ }
     requires { ⌜ Room (q .slots) start (now out) ⌝ }
     ensures { λ r. ⌜ Pushes (q .slots) (start, now (out .entry)) (r, now (out .exit)) (overFirsts (triplesIn (now (book .entry)) (q .dst) e f) (now (book .entry)) (q .cores) (q .count - q .cores)) ⌝ }
 {
     let mut n = start;
-    let mut k = q.cores;
+    let mut k = plan[NEXT + (q.cores as usize)];
     while k < q.count {
         if q.slots < n {
             return n;
         }
-        if 1 < classes[k as usize] {
-            n = triple_in(book, table, q, k, e, f, out, n);
-        }
-        k += 1;
+        n = triple_in(book, table, q, k, e, f, out, n);
+        k = plan[NEXT + (k as usize + 1)];
     }
     n
 }
@@ -95,14 +100,14 @@ fn triples(
 fn across_with(
     book: &[u8],
     table: &[u16; PLACES],
-    classes: &[u8; Limits::SEGMENTS],
+    plan: &[u8; PLAN],
     q: Query,
     e: Edge,
     f: Edge,
     out: &mut [u8],
     n: usize,
 ) -> usize
-    requires { ⌜ Prepared (now book) (now table) (now classes) (q .dst) (q .cores) (q .count) ⌝ }
+    requires { ⌜ Prepared (now book) (now table) (now plan) (q .dst) (q .cores) (q .count) ⌝ }
     requires { ⌜ Room (q .slots) n (now out) ⌝ }
     ensures { λ r. ⌜ Pushes (q .slots) (n, now (out .entry)) (r, now (out .exit)) (acrossWith (now (book .entry)) (q .dst) e f) ⌝ }
 {
@@ -111,21 +116,21 @@ fn across_with(
     if edges::same_vertex(to, Vertex::AS(dst)) {
         return slots::push_two(out, q.slots, n, e, f);
     }
-    triples(book, table, classes, q, e, f, out, n)
+    triples(book, table, plan, q, e, f, out, n)
 }
 
 // The same for the edge of the core segment at k that follows.
 fn across_in(
     book: &[u8],
     table: &[u16; PLACES],
-    classes: &[u8; Limits::SEGMENTS],
+    plan: &[u8; PLAN],
     q: Query,
     k: u8,
     e: Edge,
     out: &mut [u8],
     n: usize,
 ) -> usize
-    requires { ⌜ Prepared (now book) (now table) (now classes) (q .dst) (q .cores) (q .count) ⌝ }
+    requires { ⌜ Prepared (now book) (now table) (now plan) (q .dst) (q .cores) (q .count) ⌝ }
     requires { ⌜ k < q .cores ⌝ }
     requires { ⌜ e .core ≡ false ⌝ }
     requires { ⌜ Room (q .slots) n (now out) ⌝ }
@@ -134,7 +139,7 @@ fn across_in(
     let from = e.dst;
     let found = edges::core_leaving(book, table, k, from);
     match found {
-        Found::Edge(f) => across_with(book, table, classes, q, e, f, out, n),
+        Found::Edge(f) => across_with(book, table, plan, q, e, f, out, n),
         Found::Nothing => n,
     }
 }
@@ -142,13 +147,13 @@ fn across_in(
 fn across(
     book: &[u8],
     table: &[u16; PLACES],
-    classes: &[u8; Limits::SEGMENTS],
+    plan: &[u8; PLAN],
     q: Query,
     e: Edge,
     out: &mut [u8],
     start: usize,
 ) -> usize
-    requires { ⌜ Prepared (now book) (now table) (now classes) (q .dst) (q .cores) (q .count) ⌝ }
+    requires { ⌜ Prepared (now book) (now table) (now plan) (q .dst) (q .cores) (q .count) ⌝ }
     requires { ⌜ e .core ≡ false ⌝ }
     requires { ⌜ Room (q .slots) start (now out) ⌝ }
     ensures { λ r. ⌜ Pushes (q .slots) (start, now (out .entry)) (r, now (out .exit)) (overFirsts (chainsWith (now (book .entry)) (q .dst) e) (now (book .entry)) 0 (q .cores)) ⌝ }
@@ -159,8 +164,8 @@ fn across(
         if q.slots < n {
             return n;
         }
-        if 0 < classes[k as usize] {
-            n = across_in(book, table, classes, q, k, e, out, n);
+        if 0 < plan[k as usize] {
+            n = across_in(book, table, plan, q, k, e, out, n);
         }
         k += 1;
     }
@@ -197,26 +202,24 @@ fn pair_in(
 fn pairs(
     book: &[u8],
     table: &[u16; PLACES],
-    classes: &[u8; Limits::SEGMENTS],
+    plan: &[u8; PLAN],
     q: Query,
     e: Edge,
     out: &mut [u8],
     start: usize,
 ) -> usize
-    requires { ⌜ Prepared (now book) (now table) (now classes) (q .dst) (q .cores) (q .count) ⌝ }
+    requires { ⌜ Prepared (now book) (now table) (now plan) (q .dst) (q .cores) (q .count) ⌝ }
     requires { ⌜ Room (q .slots) start (now out) ⌝ }
     ensures { λ r. ⌜ Pushes (q .slots) (start, now (out .entry)) (r, now (out .exit)) (overFirsts (chainsWith (now (book .entry)) (q .dst) e) (now (book .entry)) (q .cores) (q .count - q .cores)) ⌝ }
 {
     let mut n = start;
-    let mut k = q.cores;
+    let mut k = plan[NEXT + (q.cores as usize)];
     while k < q.count {
         if q.slots < n {
             return n;
         }
-        if 1 < classes[k as usize] {
-            n = pair_in(book, table, q, k, e, out, n);
-        }
-        k += 1;
+        n = pair_in(book, table, q, k, e, out, n);
+        k = plan[NEXT + (k as usize + 1)];
     }
     n
 }
@@ -227,13 +230,13 @@ fn pairs(
 fn chains_from(
     book: &[u8],
     table: &[u16; PLACES],
-    classes: &[u8; Limits::SEGMENTS],
+    plan: &[u8; PLAN],
     q: Query,
     e: Edge,
     out: &mut [u8],
     n: usize,
 ) -> usize
-    requires { ⌜ Prepared (now book) (now table) (now classes) (q .dst) (q .cores) (q .count) ⌝ }
+    requires { ⌜ Prepared (now book) (now table) (now plan) (q .dst) (q .cores) (q .count) ⌝ }
     requires { ⌜ Room (q .slots) n (now out) ⌝ }
     ensures { λ r. ⌜ Pushes (q .slots) (n, now (out .entry)) (r, now (out .exit)) (chainsFrom (now (book .entry)) (q .dst) e) ⌝ }
 {
@@ -243,28 +246,28 @@ fn chains_from(
         return slots::push_one(out, q.slots, n, e);
     }
     if e.core {
-        return pairs(book, table, classes, q, e, out, n);
+        return pairs(book, table, plan, q, e, out, n);
     }
-    let m = across(book, table, classes, q, e, out, n);
-    pairs(book, table, classes, q, e, out, m)
+    let m = across(book, table, plan, q, e, out, n);
+    pairs(book, table, plan, q, e, out, m)
 }
 
 // The same for an edge that may not be there.
 fn chains_of(
     book: &[u8],
     table: &[u16; PLACES],
-    classes: &[u8; Limits::SEGMENTS],
+    plan: &[u8; PLAN],
     q: Query,
     found: Found,
     out: &mut [u8],
     n: usize,
 ) -> usize
-    requires { ⌜ Prepared (now book) (now table) (now classes) (q .dst) (q .cores) (q .count) ⌝ }
+    requires { ⌜ Prepared (now book) (now table) (now plan) (q .dst) (q .cores) (q .count) ⌝ }
     requires { ⌜ Room (q .slots) n (now out) ⌝ }
     ensures { λ r. ⌜ Pushes (q .slots) (n, now (out .entry)) (r, now (out .exit)) (flatMap (chainsFrom (now (book .entry)) (q .dst)) (foundEdges found)) ⌝ }
 {
     match found {
-        Found::Edge(e) => chains_from(book, table, classes, q, e, out, n),
+        Found::Edge(e) => chains_from(book, table, plan, q, e, out, n),
         Found::Nothing => n,
     }
 }
@@ -273,14 +276,14 @@ fn chains_of(
 fn peer_chains(
     book: &[u8],
     table: &[u16; PLACES],
-    classes: &[u8; Limits::SEGMENTS],
+    plan: &[u8; PLAN],
     q: Query,
     k: u8,
     i: u8,
     out: &mut [u8],
     start: usize,
 ) -> usize
-    requires { ⌜ Prepared (now book) (now table) (now classes) (q .dst) (q .cores) (q .count) ⌝ }
+    requires { ⌜ Prepared (now book) (now table) (now plan) (q .dst) (q .cores) (q .count) ⌝ }
     requires { ⌜ k < segmentCount (now book) ⌝ }
     requires { ⌜ i < entryCount (segmentAt (now book) k) ⌝ }
     requires { ⌜ Room (q .slots) start (now out) ⌝ }
@@ -294,7 +297,7 @@ fn peer_chains(
             return n;
         }
         let found = edges::peer_up(book, table, k, i, p);
-        n = chains_of(book, table, classes, q, found, out, n);
+        n = chains_of(book, table, plan, q, found, out, n);
         p += 1;
     }
     n
@@ -304,14 +307,14 @@ fn peer_chains(
 fn leaf_chains(
     book: &[u8],
     table: &[u16; PLACES],
-    classes: &[u8; Limits::SEGMENTS],
+    plan: &[u8; PLAN],
     q: Query,
     k: u8,
     count: u8,
     out: &mut [u8],
     start: usize,
 ) -> usize
-    requires { ⌜ Prepared (now book) (now table) (now classes) (q .dst) (q .cores) (q .count) ⌝ }
+    requires { ⌜ Prepared (now book) (now table) (now plan) (q .dst) (q .cores) (q .count) ⌝ }
     requires { ⌜ k < segmentCount (now book) ⌝ }
     requires { ⌜ count ≡ entryCount (segmentAt (now book) k) ⌝ }
     requires { ⌜ Room (q .slots) start (now out) ⌝ }
@@ -324,8 +327,8 @@ fn leaf_chains(
             return n;
         }
         let found = edges::as_up(book, table, k, i);
-        n = chains_of(book, table, classes, q, found, out, n);
-        n = peer_chains(book, table, classes, q, k, i, out, n);
+        n = chains_of(book, table, plan, q, found, out, n);
+        n = peer_chains(book, table, plan, q, k, i, out, n);
         i += 1;
     }
     n
@@ -337,14 +340,14 @@ fn leaf_chains(
 fn chains_in(
     book: &[u8],
     table: &[u16; PLACES],
-    classes: &[u8; Limits::SEGMENTS],
+    plan: &[u8; PLAN],
     q: Query,
     k: u8,
     src: IsdAsn,
     out: &mut [u8],
     n: usize,
 ) -> usize
-    requires { ⌜ Prepared (now book) (now table) (now classes) (q .dst) (q .cores) (q .count) ⌝ }
+    requires { ⌜ Prepared (now book) (now table) (now plan) (q .dst) (q .cores) (q .count) ⌝ }
     requires { ⌜ k < segmentCount (now book) ⌝ }
     requires { ⌜ Room (q .slots) n (now out) ⌝ }
     ensures { λ r. ⌜ Pushes (q .slots) (n, now (out .entry)) (r, now (out .exit)) (chainsIn (now (book .entry)) (q .dst) src (segmentAt (now (book .entry)) k)) ⌝ }
@@ -355,25 +358,25 @@ fn chains_in(
     }
     if k < q.cores {
         let found = edges::core_leaving(book, table, k, Vertex::AS(src));
-        return chains_of(book, table, classes, q, found, out, n);
+        return chains_of(book, table, plan, q, found, out, n);
     }
     let leaf = edges::leaf_as(book, table, k);
     if edges::same_as(leaf, src) {
-        return leaf_chains(book, table, classes, q, k, count as u8, out, n);
+        return leaf_chains(book, table, plan, q, k, count as u8, out, n);
     }
     let found = edges::between(book, table, k, Vertex::AS(src), leaf);
-    chains_of(book, table, classes, q, found, out, n)
+    chains_of(book, table, plan, q, found, out, n)
 }
 
 fn all_chains(
     book: &[u8],
     table: &[u16; PLACES],
-    classes: &[u8; Limits::SEGMENTS],
+    plan: &[u8; PLAN],
     q: Query,
     src: IsdAsn,
     out: &mut [u8],
 ) -> usize
-    requires { ⌜ Prepared (now book) (now table) (now classes) (q .dst) (q .cores) (q .count) ⌝ }
+    requires { ⌜ Prepared (now book) (now table) (now plan) (q .dst) (q .cores) (q .count) ⌝ }
     requires { ⌜ Room (q .slots) 0 (now out) ⌝ }
     ensures { λ r. ⌜ Pushes (q .slots) (0, now (out .entry)) (r, now (out .exit)) (overFirsts (chainsIn (now (book .entry)) (q .dst) src) (now (book .entry)) 0 (q .count)) ⌝ }
 {
@@ -383,8 +386,8 @@ fn all_chains(
         if q.slots < n {
             return n;
         }
-        if 0 < classes[k as usize] {
-            n = chains_in(book, table, classes, q, k, src, out, n);
+        if 0 < plan[k as usize] {
+            n = chains_in(book, table, plan, q, k, src, out, n);
         }
         k += 1;
     }
@@ -392,7 +395,7 @@ fn all_chains(
 }
 
 // 0 where the segment at k is not the first of its equals; where it is, 2 if an entry has the AS `dst`, else 1. A
-// non-core segment of class 1 has no edge that arrives, so that the loops over last edges pass over it.
+// non-core segment of class 1 has no edge that arrives.
 fn class_of(book: &[u8], table: &[u16; PLACES], k: u8, dst: IsdAsn) -> u8
     requires { ⌜ Ready (now book) (now table) ⌝ }
     requires { ⌜ k < segmentCount (now book) ⌝ }
@@ -407,18 +410,33 @@ fn class_of(book: &[u8], table: &[u16; PLACES], k: u8, dst: IsdAsn) -> u8
     1
 }
 
-fn classes_of(book: &[u8], table: &[u16; PLACES], count: u8, dst: IsdAsn) -> [u8; Limits::SEGMENTS]
+// The next position of class 2, from k on: k itself, or that from the position after it.
+fn next_at(class: u8, k: u8, next: u8) -> u8
+    ensures { λ r. ⌜ r ≡ (if ltb 1 class then k else next) ⌝ }
+{
+    if 1 < class {
+        return k;
+    }
+    next
+}
+
+fn plan_of(book: &[u8], table: &[u16; PLACES], count: u8, dst: IsdAsn) -> [u8; PLAN]
     requires { ⌜ Ready (now book) (now table) ⌝ }
     requires { ⌜ (count ≡ segmentCount (now book)) × (count ≤ maxSegments) ⌝ }
-    ensures { λ r. ⌜ Classed (now (book .entry)) dst r ⌝ }
+    ensures { λ r. ⌜ Planned (now (book .entry)) dst count 0 r ⌝ }
 {
-    let mut classes = [0u8; Limits::SEGMENTS];
-    let mut k: u8 = 0;
-    while k < count {
-        classes[k as usize] = class_of(book, table, k, dst);
-        k += 1;
+    let mut plan = [0u8; PLAN];
+    plan[NEXT + (count as usize)] = count;
+    let mut next = count;
+    let mut k = count;
+    while k > 0 {
+        k -= 1;
+        let class = class_of(book, table, k, dst);
+        next = next_at(class, k, next);
+        plan[k as usize] = class;
+        plan[NEXT + (k as usize)] = next;
     }
-    classes
+    plan
 }
 
 // Pushes all chains from `src` to `dst` of an accepted book into the slots.
@@ -439,12 +457,12 @@ pub(crate) fn search(
     }
     let sizes = segment::sizes(book);
     let count = (sizes.cores + sizes.others) as u8;
-    let classes = classes_of(book, table, count, dst);
+    let plan = plan_of(book, table, count, dst);
     let q = Query {
         cores: sizes.cores as u8,
         count: count,
         dst: dst,
         slots: slots,
     };
-    all_chains(book, table, &classes, q, src, out)
+    all_chains(book, table, &plan, q, src, out)
 }

@@ -4,7 +4,6 @@ use native.Mathlib.Omega.{arith}
 use mathlib.Core.Path.{sym, ap, _∙_}
 use Rattle.spec.specs.Book.{isdAsnAt}
 use Rattle.graph.proofs.LookupReads.{position-below, count-small, entry-within, as-read}
-use borrow.Author.Needs.{needs}
 use Rattle.graph.proofs.edges.as_at.Statement.{statement}
 use Rattle.graph.proofs.edges.as_at.Tie as tie
 

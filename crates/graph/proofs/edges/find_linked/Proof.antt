@@ -8,7 +8,7 @@ use Rattle.graph.specs.Leaving.{hasLink}
 use Rattle.graph.specs.Scan.{entryLinked}
 use Rattle.graph.specs.Link.{endOf}
 use Rattle.graph.proofs.LookupScan.{Scanning, scan-start, scan-stop, scan-turn, scan-end}
-use Rattle.graph.proofs.LookupReads.{linked-yes, linked-no}
+use mathlib.Core.Path.{sym, _∙_}
 use Rattle.graph.proofs.edges.find_linked.Statement.{statement}
 use Rattle.graph.proofs.edges.find_linked.Tie as tie
 
@@ -21,14 +21,14 @@ abbrev μ-loop : tie.MeasureT-loop
 loop-holds : tie.Need-loop-holds Inv-loop μ-loop
 loop-holds c = scan-start _ _
 
-find-peer-requires : tie.Need-find-peer-requires Inv-loop μ-loop
-find-peer-requires c κs = search needs
+has-link-requires : tie.Need-has-link-requires Inv-loop μ-loop
+has-link-requires c κs = search needs
 
 returns : tie.Need-returns Inv-loop μ-loop
 unfolding entryLinked
 returns c =
     let l = c .before .before .before in
-    scan-stop _ _ _ (l .loop .inv) (omega arith) (linked-yes _ _ _ (c .before .find-peer .ensures) (c .if1 .taken))
+    scan-stop _ _ _ (l .loop .inv) (omega arith) (sym (c .before .has-link .ensures) ∙ c .if1 .taken)
 
 add-i : tie.Need-add-i Inv-loop μ-loop
 add-i c = omega arith
@@ -39,7 +39,7 @@ loop-less c = omega arith
 loop-again : tie.Need-loop-again Inv-loop μ-loop
 loop-again c =
     let l = c .before .before .before in
-    scan-turn _ _ _ (l .loop .inv) (omega arith) (linked-no _ _ _ (c .before .find-peer .ensures) (c .if1 .left))
+    scan-turn _ _ _ (l .loop .inv) (omega arith) (sym (c .before .has-link .ensures) ∙ c .if1 .left)
 
 returns-2 : tie.Need-returns-2 Inv-loop μ-loop
 unfolding entryLinked
@@ -52,7 +52,7 @@ find-linked-spec =
     Inv-loop
     μ-loop
     loop-holds
-    find-peer-requires
+    has-link-requires
     returns
     add-i
     loop-less

@@ -16,12 +16,12 @@ use Rattle.graph.proofs.search.leaf_chains.Statement.{statement}
 use Rattle.graph.proofs.search.leaf_chains.Tie as tie
 
 abbrev Inv-loop : tie.InvT-loop
-Inv-loop book table classes q k count out₀ start n₀ i₀ out n i =
+Inv-loop book table plan q k count out₀ start n₀ i₀ out n i =
     (i ≤ count) × (length out ≡ length out₀)
     × Going (q .slots) (start, out₀) (n, out) (flatMap (chainsFrom book (q .dst)) (flatMap (upsAt (segmentAt book k)) (range 0 count))) (flatMap (chainsFrom book (q .dst)) (flatMap (upsAt (segmentAt book k)) (range i (count - i))))
 
 abbrev μ-loop : tie.MeasureT-loop
-μ-loop book table classes q k count out₀ start n₀ i₀ out n i = count - i
+μ-loop book table plan q k count out₀ start n₀ i₀ out n i = count - i
 
 loop-holds : tie.Need-loop-holds Inv-loop μ-loop
 loop-holds c = (omega arith, refl, going-begin (omega arith) (each-start _ _ _ _ refl))

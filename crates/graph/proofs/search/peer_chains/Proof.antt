@@ -18,12 +18,12 @@ use Rattle.graph.proofs.search.peer_chains.Statement.{statement}
 use Rattle.graph.proofs.search.peer_chains.Tie as tie
 
 abbrev Inv-loop : tie.InvT-loop
-Inv-loop book table classes q k i out₀ start count n₀ p₀ out n p =
+Inv-loop book table plan q k i out₀ start count n₀ p₀ out n p =
     (p ≤ count) × (length out ≡ length out₀) × (count ≤ maxPeers) × (count ≡ peerCountOf (segmentAt book k) i)
     × Going (q .slots) (start, out₀) (n, out) (flatMap (chainsFrom book (q .dst)) (flatMap (peerUp (segmentAt book k) i) (range 0 (peerCountOf (segmentAt book k) i)))) (flatMap (chainsFrom book (q .dst)) (flatMap (peerUp (segmentAt book k) i) (range p (count - p))))
 
 abbrev μ-loop : tie.MeasureT-loop
-μ-loop book table classes q k i out₀ start count n₀ p₀ out n p = count - p
+μ-loop book table plan q k i out₀ start count n₀ p₀ out n p = count - p
 
 peer-count-requires : tie.Need-peer-count-requires Inv-loop μ-loop
 peer-count-requires c κs = let p = c .before .before .pre in (p .0 .ready, (p .1 .0, p .1 .1 .0))

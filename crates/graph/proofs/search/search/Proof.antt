@@ -1,4 +1,4 @@
--- Equal ends have no chain; else the positions are counted and classed, and all are searched.
+-- Equal ends have no chain; else the positions are counted and planned, and all are searched.
 -- Assumes nothing.
 use native.Mathlib.Omega.{arith}
 use Rattle.graph.proofs.PushedTurns.{pushes-as, pushes-none}
@@ -23,8 +23,8 @@ cast-count c =
     let z = counted _ (p .0 .ok) _ (c .before .sizes .ensures) in
     omega arith
 
-classes-of-requires : tie.Need-classes-of-requires
-classes-of-requires c κs =
+plan-of-requires : tie.Need-plan-of-requires
+plan-of-requires c κs =
     let p = c .before .before .before .before .before .before .pre in
     let z = counted _ (p .0 .ok) _ (c .before .sizes .ensures) in
     (p .0, (z .count, z .small))
@@ -39,7 +39,7 @@ all-chains-requires : tie.Need-all-chains-requires
 all-chains-requires c κs =
     let p = c .before .before .before .before .before .before .before .before .before .before .pre in
     let z = counted _ (p .0 .ok) _ (c .before .before .before .before .before .sizes .ensures) in (
-      record { ready = p .0; first = c .before .before .before .classes-of .ensures; cores = z .cores; count = z .count; within = omega arith; small = z .small },
+      record { ready = p .0; planned = c .before .before .before .plan-of .ensures; cores = z .cores; count = z .count; within = omega arith; small = z .small },
       record { room = omega arith; most = omega arith },
     )
 
@@ -58,7 +58,7 @@ search-spec =
     (λ c κs. search needs)
     add-count
     cast-count
-    classes-of-requires
+    plan-of-requires
     cast-t14
     all-chains-requires
     (λ c. search needs)

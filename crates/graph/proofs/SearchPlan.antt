@@ -1,0 +1,162 @@
+-- The plan of a search: how it is made, and what the loops over last edges pass over by it.
+-- Assumes nothing.
+use Prim.Native.Nat.{ℕ, zero, suc, _+_, _*_, _-_, _≤_, _<_}
+use native.Mathlib.Decide.{ℕ-discrete}
+use native.Mathlib.Omega.{arith}
+use mathlib.Core.Path.{_≡_, refl, sym, ap, _∙_}
+use mathlib.Core.Bool.{Bool, true, false}
+use mathlib.Core.List.{List, [], _++_}
+use lib.ListN.{length, getD, set, length-set}
+use lib.Seq.{getD-set-same, getD-set-other}
+use lib.Dec.{ltb}
+use borrow.Author.Tests.{ltb-true, ltb-false, lt-ltb, le-ltb}
+use Rattle.spec.specs.declared.IsdAsn.{IsdAsn}
+use Rattle.spec.specs.declared.Edge.{Edge}
+use Rattle.spec.specs.Limits.{maxSegments}
+use Rattle.spec.specs.Basics.{if_then_else_}
+use Rattle.spec.specs.Book.{Segment, segments, segmentAt, cores}
+use Rattle.spec.specs.Edges.{isFirst}
+use Rattle.graph.specs.Scan.{firstWith, hasAs}
+use Rattle.graph.specs.Prepared.{classOf, arrives, Planned}
+use Rattle.graph.specs.Search.{overFirsts, chainsWith, triplesIn}
+use Rattle.graph.proofs.LookupScan.{first-le, first-passes}
+use Rattle.graph.proofs.SearchLaws.{over-turn, over-skip}
+use Rattle.graph.proofs.SearchTurns.{class-first, class-low, pair-none, triple-none}
+
+-- ---- the plan is made from the last position down
+
+-- one number more, at the place of k
+more-below : (xs : List ℕ) (place f : ℕ → ℕ) (k n v : ℕ) → ((i j : ℕ) → place i ≡ place j → i ≡ j) → place k < length xs → v ≡ f k
+    → ((i : ℕ) → k + 1 ≤ i → i < n → getD xs (place i) 0 ≡ f i) → (i : ℕ) → k ≤ i → i < n → getD (set xs (place k) v) (place i) 0 ≡ f i
+more-below xs place f k n v apart l q above i a h = go (ℕ-discrete k i)
+  where
+    go : Dec (k ≡ i) → getD (set xs (place k) v) (place i) 0 ≡ f i
+    go (yes e) = ap (λ j. getD (set xs (place k) v) (place j) 0) (sym e) ∙ getD-set-same xs (place k) v 0 l ∙ q ∙ ap f e
+    go (no d) = getD-set-other xs (place k) (place i) v 0 (λ e. d (sym (apart i k e))) ∙ above i (omega arith) h
+
+module _ (class k next : ℕ) where
+  pub next-here : 1 < class → k ≡ (if ltb 1 class then k else next)
+  next-here h = sym (ap (λ t. if t then k else next) (lt-ltb 1 class h))
+
+  pub next-later : class ≤ 1 → next ≡ (if ltb 1 class then k else next)
+  next-later h = sym (ap (λ t. if t then k else next) (le-ltb 1 class h))
+
+pub plan-all : {b : List ℕ} {dst : IsdAsn} {n k : ℕ} {plan : List ℕ} → Planned b dst n k plan → k ≤ 0 → Planned b dst n 0 plan
+plan-all p h = record { classes = λ i a. p .classes i (omega arith); nexts = λ i a. p .nexts i (omega arith) }
+
+module _ (b : List ℕ) (dst : IsdAsn) (n : ℕ) (few : n ≤ maxSegments) where
+  abbrev nextFrom : ℕ → ℕ
+  nextFrom k = firstWith (arrives b dst) k (n - k)
+
+  pub next-end : n ≡ nextFrom n
+  unfolding firstWith
+  next-end = let e : n - n ≡ 0 = omega arith in sym (ap (firstWith (arrives b dst) n) e)
+
+  pub plan-start : (plan : List ℕ) → length plan ≡ 2 * maxSegments + 1 → Planned b dst n n (set plan (maxSegments + n) n)
+  plan-start plan size =
+      record {
+        classes = λ i a h. absurd (omega arith);
+        nexts = λ i a h.
+            let e : n ≡ i = omega arith in
+            ap (λ j. getD (set plan (maxSegments + n) n) (maxSegments + j) 0) (sym e) ∙ getD-set-same plan (maxSegments + n) n 0 (omega arith) ∙ next-end ∙ ap nextFrom e;
+      }
+
+  module _ (k : ℕ) (below : 0 < k) (within : k ≤ n) {class next new : ℕ} (here : class ≡ classOf b dst (k - 1)) (later : next ≡ nextFrom k)
+      (chosen : new ≡ (if ltb 1 class then k - 1 else next)) where
+    back : k - 1 + 1 ≡ k
+    back = omega arith
+
+    pub next-turn : new ≡ nextFrom (k - 1)
+    unfolding firstWith arrives
+    next-turn =
+        let e : n - (k - 1) ≡ suc (n - (k - 1 + 1)) = omega arith in
+        chosen
+        ∙ ap (λ x. if ltb 1 x then k - 1 else next) here
+        ∙ ap (λ x. if ltb 1 (classOf b dst (k - 1)) then k - 1 else x) (later ∙ ap nextFrom (sym back))
+        ∙ sym (ap (firstWith (arrives b dst) (k - 1)) e)
+
+    pub plan-turn : (plan : List ℕ) → length plan ≡ 2 * maxSegments + 1 → Planned b dst n k plan
+        → Planned b dst n (k - 1) (set (set plan (k - 1) class) (maxSegments + (k - 1)) new)
+    plan-turn plan size p =
+        let l : length (set plan (k - 1) class) ≡ 2 * maxSegments + 1 = simp length-set size in
+        record {
+          classes = λ i a h.
+              getD-set-other (set plan (k - 1) class) (maxSegments + (k - 1)) i new 0 (λ e. omega arith)
+              ∙ more-below plan (λ j. j) (classOf b dst) (k - 1) n class (λ i j e. e) (omega arith) here (λ j c d. p .classes j (omega arith) d) i a h;
+          nexts = λ i a h.
+              more-below (set plan (k - 1) class) (λ j. maxSegments + j) nextFrom (k - 1) (n + 1) new (λ i j e. omega arith) (omega arith) next-turn
+              (λ j c d. getD-set-other plan (k - 1) (maxSegments + j) class 0 (λ e. omega arith) ∙ p .nexts j (omega arith) (omega arith)) i a (omega arith);
+        }
+
+-- ---- what is passed over
+
+module _ {A : Type 0} (f : Segment → List A) (b : List ℕ) (p : ℕ → Bool) where
+  over-next : (k left : ℕ) → ((i : ℕ) → k ≤ i → p i ≡ false → isFirst (segments b) (segmentAt b i) ≡ true → f (segmentAt b i) ≡ [])
+      → overFirsts f b k left ≡ overFirsts f b (firstWith p k left) (k + left - firstWith p k left)
+  unfolding firstWith
+  over-next k zero none = let e : 0 ≡ k + 0 - k = omega arith in ap (overFirsts f b k) e
+  over-next k (suc left) none = go (p k) refl (over-next (k + 1) left (λ i h. none i (omega arith)))
+    where
+      go : (t : Bool) → p k ≡ t → overFirsts f b (k + 1) left ≡ overFirsts f b (firstWith p (k + 1) left) (k + 1 + left - firstWith p (k + 1) left)
+          → overFirsts f b k (suc left) ≡ overFirsts f b (if t then k else firstWith p (k + 1) left) (k + suc left - (if t then k else firstWith p (k + 1) left))
+      go true q ih = let e : suc left ≡ k + suc left - k = omega arith in ap (overFirsts f b k) e
+      go false q ih =
+          let e : suc left ≡ k + suc left - k = omega arith in
+          let e′ : k + suc left - (k + 1) ≡ left = omega arith in
+          let e″ : k + 1 + left ≡ k + suc left = omega arith in
+          ap (overFirsts f b k) e
+          ∙ over-skip f b k (k + suc left) (omega arith) (none k (omega arith) q)
+          ∙ ap (overFirsts f b (k + 1)) e′
+          ∙ ih
+          ∙ ap (λ m. overFirsts f b (firstWith p (k + 1) left) (m - firstWith p (k + 1) left)) e″
+
+  over-pass : (k n : ℕ) {j : ℕ} → k ≤ n → ((i : ℕ) → k ≤ i → p i ≡ false → isFirst (segments b) (segmentAt b i) ≡ true → f (segmentAt b i) ≡ [])
+      → j ≡ firstWith p k (n - k) → overFirsts f b k (n - k) ≡ overFirsts f b j (n - j)
+  over-pass k n h none q =
+      let e : k + (n - k) ≡ n = omega arith in
+      over-next k (n - k) none
+      ∙ ap (λ m. overFirsts f b (firstWith p k (n - k)) (m - firstWith p k (n - k))) e
+      ∙ ap (λ i. overFirsts f b i (n - i)) (sym q)
+
+-- where a loop over last edges stands: past all, or at a position of class 2
+pub record Stops (b : List ℕ) (dst : IsdAsn) (n k : ℕ) : Type 0 where
+  pub within : k ≤ n
+  pub here : k < n → arrives b dst k ≡ true
+
+module _ (b : List ℕ) (dst : IsdAsn) where
+  first-here : (k : ℕ) → arrives b dst k ≡ true → isFirst (segments b) (segmentAt b k) ≡ true
+  unfolding arrives
+  first-here k q = let h : 1 < classOf b dst k = ltb-true _ _ q in class-first b dst k refl (omega arith)
+
+  none-here : (k : ℕ) → arrives b dst k ≡ false → isFirst (segments b) (segmentAt b k) ≡ true → hasAs (segmentAt b k) dst ≡ false
+  unfolding arrives
+  none-here k q t = class-low b dst k refl (ltb-false _ _ q) t
+
+  module _ (k n : ℕ) {j : ℕ} (h : k ≤ n) (next : j ≡ firstWith (arrives b dst) k (n - k)) where
+    pub next-above : k ≤ j
+    next-above = let l = first-le (arrives b dst) k (n - k) in omega arith
+
+    pub next-stops : Stops b dst n j
+    next-stops =
+        let l = first-le (arrives b dst) k (n - k) in
+        record { within = omega arith; here = λ g. ap (arrives b dst) next ∙ first-passes (arrives b dst) k (n - k) (omega arith) }
+
+    module _ (o : cores b ≤ k) where
+      pub pairs-pass : (e : Edge) → overFirsts (chainsWith b dst e) b k (n - k) ≡ overFirsts (chainsWith b dst e) b j (n - j)
+      pairs-pass e = over-pass (chainsWith b dst e) b (arrives b dst) k n h (λ i a q t. pair-none b dst e i (omega arith) (none-here i q t)) next
+
+      pub triples-pass : (e f : Edge) → overFirsts (triplesIn b dst e f) b k (n - k) ≡ overFirsts (triplesIn b dst e f) b j (n - j)
+      triples-pass e f = over-pass (triplesIn b dst e f) b (arrives b dst) k n h (λ i a q t. triple-none b dst e i f (omega arith) (none-here i q t)) next
+
+  -- one position, and on to the next
+  module _ (k n : ℕ) {j : ℕ} (s : Stops b dst n k) (h : k < n) (next : j ≡ firstWith (arrives b dst) (k + 1) (n - (k + 1))) (o : cores b ≤ k) where
+    pub pairs-turn : (e : Edge) → overFirsts (chainsWith b dst e) b k (n - k) ≡ chainsWith b dst e (segmentAt b k) ++ overFirsts (chainsWith b dst e) b j (n - j)
+    pairs-turn e =
+        over-turn (chainsWith b dst e) b k n h (first-here k (s .here h))
+        ∙ ap (λ l. chainsWith b dst e (segmentAt b k) ++ l) (pairs-pass (k + 1) n (omega arith) next (omega arith) e)
+
+    pub triples-turn : (e f : Edge)
+        → overFirsts (triplesIn b dst e f) b k (n - k) ≡ triplesIn b dst e f (segmentAt b k) ++ overFirsts (triplesIn b dst e f) b j (n - j)
+    triples-turn e f =
+        over-turn (triplesIn b dst e f) b k n h (first-here k (s .here h))
+        ∙ ap (λ l. triplesIn b dst e f (segmentAt b k) ++ l) (triples-pass (k + 1) n (omega arith) next (omega arith) e f)
