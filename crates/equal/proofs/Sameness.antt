@@ -8,13 +8,13 @@ use native.Mathlib.Omega.{arith}
 use lib.ListN.{length, getD, take, drop, length-take, length-drop, drop-of-length-le}
 use lib.Seq.{drop-cons, take-all}
 use lib.Dec.{ltb, eqb}
-use borrow.Author.Tests.{lt-ltb, le-ltb, ltb-true, ltb-false, eq-eqb, ne-eqb}
+use borrow.Author.Tests.{lt-ltb, le-ltb, ltb-true, ltb-false, eq-eqb, ne-eqb, eqb-true}
 use Rattle.spec.specs.Limits.{sizesSize, headSize}
-use Rattle.spec.specs.Octets.{be16}
+use Rattle.spec.specs.Octets.{be16, be32}
 use Rattle.spec.specs.Basics.{any, range, sameList}
 use Rattle.spec.specs.Book.{cores, segmentCount, headOffset, timestampAt, idAt, bodyLengthAt, bodyOffset, segmentAt, segments}
 use Rattle.spec.specs.Edges.{sameBool, sameSegment, isEarlier, isFirst}
-use Rattle.equal.specs.Same.{sameParts}
+use Rattle.equal.specs.Same.{keyAt, sameParts}
 use Rattle.segment.proofs.Positions.{one-less, any-next, any-none, any-done}
 
 -- ---- bytes
@@ -205,23 +205,31 @@ module _ (b : List ℕ) (k j : ℕ) {count all : ℕ} (ec : count ≡ min k all)
 
 -- ---- positions that are passed over
 
--- the id, of the two bytes that the code read
-id-is : (b : List ℕ) (j : ℕ) {x y : ℕ} → x ≡ getD b (sizesSize + headSize * j + 4) 0 → y ≡ getD b (sizesSize + headSize * j + 4 + 1) 0 → x * 2 ^ 8 + y ≡ idAt b j
-unfolding idAt headOffset be16
-id-is b j p q = ap₂ (λ u v. u * 2 ^ 8 + v) p q
+-- a key, of the timestamp and the id that the code read
+pub key-read : (b : List ℕ) (k : ℕ) {x y t i : ℕ} → t ≡ timestampAt b k → i ≡ idAt b k → x ≡ t → y ≡ i → x * 2 ^ 16 + y ≡ keyAt b k
+unfolding keyAt
+key-read b k p q e f = ap₂ (λ u v. u * 2 ^ 16 + v) (e ∙ p) (f ∙ q)
 
--- the positions from an earlier one up to j, and j itself, have other ids
-pub none-more : (b : List ℕ) (from j : ℕ) {x y own : ℕ} → ((i : ℕ) → from ≤ i → i < j → idAt b i ≡ own → ⊥)
-    → x ≡ getD b (sizesSize + headSize * j + 4) 0 → y ≡ getD b (sizesSize + headSize * j + 4 + 1) 0 → (x * 2 ^ 8 + y ≡ own → ⊥)
-    → (i : ℕ) → from ≤ i → i < j + 1 → idAt b i ≡ own → ⊥
-none-more b from j {x} {y} {own} none p q d i l h = go (ltb i j) refl
+-- and the id of a head by its bytes
+pub id-bytes : (b : List ℕ) (at : ℕ) → be16 b (at + 4) ≡ getD b (at + 4) 0 * 2 ^ 8 + getD b (at + 5) 0
+unfolding be16
+id-bytes b at =
+    let e : at + 4 + 1 ≡ at + 5 = omega arith in
+    ap (λ m. getD b (at + 4) 0 * 2 ^ 8 + getD b m 0) e
+
+-- the positions from an earlier one up to j, and j itself, have other keys
+pub none-more : (b : List ℕ) (from j : ℕ) {x own : ℕ} → ((i : ℕ) → from ≤ i → i < j → keyAt b i ≡ own → ⊥)
+    → x ≡ be32 b (sizesSize + headSize * j) * 2 ^ 16 + be16 b (sizesSize + headSize * j + 4) → (x ≡ own → ⊥)
+    → (i : ℕ) → from ≤ i → i < j + 1 → keyAt b i ≡ own → ⊥
+unfolding keyAt timestampAt idAt headOffset
+none-more b from j {x} {own} none p d i l h = go (ltb i j) refl
   where
-    go : (t : Bool) → ltb i j ≡ t → idAt b i ≡ own → ⊥
+    go : (t : Bool) → ltb i j ≡ t → keyAt b i ≡ own → ⊥
     go true e r = none i l (ltb-true _ _ e) r
     go false e r =
         let g : j ≤ i = ltb-false _ _ e in
         let s : i ≡ j = omega arith in
-        d (id-is b j p q ∙ sym (ap (idAt b) s) ∙ r)
+        d (p ∙ sym (ap (keyAt b) s) ∙ r)
 
 -- a test that fails from i up to j
 any-skip : (p : ℕ → Bool) (n i j : ℕ) → i ≤ j → j ≤ n → ((m : ℕ) → i ≤ m → m < j → p m ≡ false) → any p (range i (n - i)) ≡ any p (range j (n - j))
@@ -233,10 +241,18 @@ any-skip p n i j h g none = go (j - i) i (omega arith) none
         ap (λ m. any p (range m (n - m))) q
     go (suc d) i e f = any-next p n i (omega arith) (f i (omega arith) (omega arith)) ∙ go d (i + 1) (omega arith) (λ m a l. f m (omega arith) l)
 
--- positions with other ids do not repeat the segment at k
-pub ids-skipped : (b : List ℕ) (k i j : ℕ) {count all own : ℕ} → count ≡ min k all → all ≡ segmentCount b → own ≡ idAt b k
-    → i ≤ j → j ≤ count → ((m : ℕ) → i ≤ m → m < j → idAt b m ≡ own → ⊥)
+-- positions with other keys do not repeat the segment at k
+other-key : (b : List ℕ) (j k : ℕ) → (keyAt b k ≡ keyAt b j → ⊥) → sameSegment (segmentAt b j) (segmentAt b k) ≡ false
+unfolding keyAt
+other-key b j k d = go (eqb (idAt b j) (idAt b k)) refl
+  where
+    go : (t : Bool) → eqb (idAt b j) (idAt b k) ≡ t → sameSegment (segmentAt b j) (segmentAt b k) ≡ false
+    go false q = other-id b j k refl refl (λ e. let z : true ≡ false = sym (eq-eqb (idAt b j) (idAt b k) e) ∙ q in let y : _≡_ {A = ℕ} 0 1 = cc in absurd (omega arith))
+    go true q = other-time b j k refl refl (λ e. d (ap₂ (λ u v. u * 2 ^ 16 + v) (sym e) (sym (eqb-true (idAt b j) (idAt b k) q))))
+
+pub keys-skipped : (b : List ℕ) (k i j : ℕ) {count all own : ℕ} → count ≡ min k all → all ≡ segmentCount b → own ≡ keyAt b k
+    → i ≤ j → j ≤ count → ((m : ℕ) → i ≤ m → m < j → keyAt b m ≡ own → ⊥)
     → any (repeats b k) (range i (segmentCount b - i)) ≡ any (repeats b k) (range j (segmentCount b - j))
-ids-skipped b k i j ec ea eo h g none =
+keys-skipped b k i j ec ea eo h g none =
     any-skip (repeats b k) (segmentCount b) i j h (omega arith) (λ m a l.
-    repeats-is b k m (omega arith) ∙ other-id b k m eo refl (λ e. none m a l (sym e)))
+    repeats-is b k m (omega arith) ∙ other-key b k m (λ e. none m a l (e ∙ sym eo)))

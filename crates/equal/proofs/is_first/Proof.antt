@@ -1,7 +1,6 @@
 -- `is_first` meets its contract. The loop's invariant: whether the segment stands at a lower position shows in those from j on.
 -- Assumes nothing.
 use mathlib.Core.Path.{_≡_, sym, ap, _∙_}
-use mathlib.Core.Logic.{⊎-elim}
 use mathlib.Core.Bool.{false, not}
 use Prim.Native.Nat.{_-_, _≤_}
 use native.Mathlib.Omega.{arith}
@@ -9,7 +8,7 @@ use Rattle.spec.specs.Basics.{any, range}
 use Rattle.spec.specs.Book.{segmentCount, segmentAt, segments}
 use Rattle.spec.specs.Edges.{isFirst}
 use Rattle.segment.proofs.Positions.{any-here, any-next}
-use Rattle.equal.proofs.Sameness.{repeats, repeats-is, first-all, other-id, below-both, repeats-done, ids-skipped}
+use Rattle.equal.proofs.Sameness.{repeats, repeats-is, first-all, below-both, repeats-done, keys-skipped}
 use borrow.Author.Needs.{needs}
 use Rattle.equal.proofs.is_first.Statement.{statement}
 use Rattle.equal.proofs.is_first.Tie as tie
@@ -29,19 +28,16 @@ next-with-requires c κs = (omega arith, c .heads-within .ensures .1)
 loop-holds : tie.Need-loop-holds Inv-loop μ-loop
 loop-holds c =
     let n = c .next-with .ensures in
-    (omega arith, first-all _ _ ∙ ap not (ids-skipped _ _ 0 _ (c .before .before .before .least .ensures) (c .before .before .before .before .segment-count .ensures .0) (c .before .before .id .ensures) (n .0) (omega arith) (n .2)))
+    (omega arith, first-all _ _ ∙ ap not (keys-skipped _ _ 0 _ (c .before .before .before .least .ensures) (c .before .before .before .before .segment-count .ensures .0) (c .before .before .key-of .ensures) (n .0) (omega arith) (n .2)))
 
-cast-other : tie.Need-cast-other Inv-loop μ-loop
-cast-other c = omega arith
-
-same-rest-requires : tie.Need-same-rest-requires Inv-loop μ-loop
-same-rest-requires c κs = sym (c .if1 .taken ∙ c .before .before .before .before .before .before .id .ensures) ∙ c .before .id2 .ensures
+cast-same-segment : tie.Need-cast-same-segment Inv-loop μ-loop
+cast-same-segment c = omega arith
 
 returns : tie.Need-returns Inv-loop μ-loop
 returns c =
-    let l = c .before .before .before .before .before in
-    let below = below-both _ _ _ (l .before .before .before .before .least .ensures) (l .before .before .before .before .before .segment-count .ensures .0) (c .before .before .before .before .loop-test .taken) in
-    sym (l .loop .inv .1 ∙ ap not (any-here _ _ _ (below .1) (repeats-is _ _ _ (below .0) ∙ sym (c .before .same-rest .ensures) ∙ c .if2 .taken)))
+    let l = c .before .before .before in
+    let below = below-both _ _ _ (l .before .before .before .before .least .ensures) (l .before .before .before .before .before .segment-count .ensures .0) (c .before .before .loop-test .taken) in
+    sym (l .loop .inv .1 ∙ ap not (any-here _ _ _ (below .1) (repeats-is _ _ _ (below .0) ∙ sym (c .before .same-segment .ensures) ∙ c .if1 .taken)))
 
 add-next-with : tie.Need-add-next-with Inv-loop μ-loop
 add-next-with c = omega arith
@@ -59,12 +55,8 @@ loop-again c =
     let n = c .next-with2 .ensures in
     let below = below-both (a .book .now) (a .k) (l .loop .j) (l .before .before .before .before .least .ensures) (l .before .before .before .before .before .segment-count .ensures .0) (c .before .before .before .loop-test .taken) in
     let r : repeats (a .book .now) (a .k) (l .loop .j) ≡ false =
-    repeats-is _ _ _ (below .0)
-    ∙ ⊎-elim
-    (λ w. sym (w .1 .ensures) ∙ w .2 .left)
-    (λ w. other-id _ _ _ (l .before .before .before .id .ensures) (c .before .before .id2 .ensures) (λ e. w .left (sym e)))
-    (c .before .if1 .came) in
-    let skipped = ids-skipped _ _ _ _ (l .before .before .before .before .least .ensures) (l .before .before .before .before .before .segment-count .ensures .0) (l .before .before .before .id .ensures) (n .0) (omega arith) (n .2) in
+    repeats-is _ _ _ (below .0) ∙ sym (c .before .before .same-segment .ensures) ∙ c .before .if1 .left in
+    let skipped = keys-skipped _ _ _ _ (l .before .before .before .before .least .ensures) (l .before .before .before .before .before .segment-count .ensures .0) (l .before .before .before .key-of .ensures) (n .0) (omega arith) (n .2) in
     (omega arith, l .loop .inv .1 ∙ ap not (any-next _ _ _ (below .1) r ∙ skipped))
 
 returns-2 : tie.Need-returns-2 Inv-loop μ-loop
@@ -84,9 +76,8 @@ is-first-spec =
     heads-within-requires
     next-with-requires
     loop-holds
-    cast-other
+    cast-same-segment
     (λ c κs. search needs)
-    same-rest-requires
     returns
     add-next-with
     next-with-requires-2
