@@ -3,20 +3,17 @@
 use mathlib.Core.Path.{_≡_, refl, sym, ap, ap₂, _∙_}
 use mathlib.Core.Bool.{Bool, true, false, _&&_, not}
 use mathlib.Core.List.{List, [], _∷_, map}
-use Prim.Native.Nat.{ℕ, zero, suc, _+_, _-_, _≤_, _<_, min}
+use Prim.Native.Nat.{ℕ, suc, _+_, _-_, _≤_, _<_, min}
 use native.Mathlib.Omega.{arith}
 use lib.ListN.{length, getD, take, drop, length-take, length-drop, drop-of-length-le}
 use lib.Seq.{drop-cons, take-all}
 use lib.Dec.{ltb, eqb}
 use borrow.Author.Tests.{lt-ltb, le-ltb, ltb-true, ltb-false, eq-eqb, ne-eqb}
-use Rattle.spec.specs.declared.Sizes.{Sizes}
-use Rattle.spec.specs.declared.Head.{Head}
-use Rattle.spec.specs.Basics.{if_then_else_, any, filter, range, sameList}
-use Rattle.spec.specs.Book.{cores, segmentCount, timestampAt, idAt, bodyLengthAt, sizesAt, headAt, bodyOffset, segmentAt, segments}
-use Rattle.spec.specs.Edges.{sameBool, sameSegment, isEarlier, isFirst, firsts}
-use Rattle.equal.specs.Same.{sameHead, sameParts}
+use Rattle.spec.specs.Basics.{any, range, sameList}
+use Rattle.spec.specs.Book.{cores, segmentCount, timestampAt, idAt, bodyLengthAt, bodyOffset, segmentAt, segments}
+use Rattle.spec.specs.Edges.{sameBool, sameSegment, isEarlier, isFirst}
+use Rattle.equal.specs.Same.{sameParts}
 use Rattle.segment.proofs.Positions.{one-less, any-none, any-done}
-use Rattle.segment.proofs.Fields.{cores-read, length-read}
 
 -- ---- bytes
 
@@ -126,61 +123,42 @@ module _ (b : List ℕ) (i m j n p u q v : ℕ) (ep : p ≡ min i (length b)) (e
 
 -- ---- segments
 
-module _ (c j : ℕ) (one : Head) (k : ℕ) (other : Head) where
-  pub other-id : (one .id ≡ other .id → ⊥) → sameHead c j one k other ≡ false
-  unfolding sameHead
-  other-id h = rw (ne-eqb (one .id) (other .id) h) (go (sameBool (ltb j c) (ltb k c)) (eqb (one .timestamp) (other .timestamp)))
-    where
-      go : (s t : Bool) → (s && t && false) ≡ false
-      go false t = refl
-      go true false = refl
-      go true true = refl
-
-  pub other-time : (one .timestamp ≡ other .timestamp → ⊥) → sameHead c j one k other ≡ false
-  unfolding sameHead
-  other-time h = rw (ne-eqb (one .timestamp) (other .timestamp) h) (go (sameBool (ltb j c) (ltb k c)) (eqb (one .id) (other .id)))
-    where
-      go : (s t : Bool) → (s && false && t) ≡ false
-      go false t = refl
-      go true t = refl
-
-  pub by-kind : one .id ≡ other .id → one .timestamp ≡ other .timestamp → sameHead c j one k other ≡ sameBool (ltb j c) (ltb k c)
-  unfolding sameHead
-  by-kind e h = rw (eq-eqb (one .timestamp) (other .timestamp) h, eq-eqb (one .id) (other .id) e) (go (sameBool (ltb j c) (ltb k c)))
-    where
-      go : (s : Bool) → (s && true && true) ≡ s
-      go false = refl
-      go true = refl
-
--- equal segments have equal heads and bodies
+-- the four comparisons, bodies by their places
 segment-is : (b : List ℕ) (j k : ℕ)
     → sameSegment (segmentAt b j) (segmentAt b k)
-    ≡ (sameHead (cores b) j (headAt b j) k (headAt b k) && sameParts b (bodyOffset b j) (bodyLengthAt b j) (bodyOffset b k) (bodyLengthAt b k))
-unfolding sameSegment segmentAt headAt sameHead sameParts
-segment-is b j k =
-    go (sameBool (ltb j (cores b)) (ltb k (cores b))) (eqb (timestampAt b j) (timestampAt b k)) (eqb (idAt b j) (idAt b k))
-    (sameList (take (bodyLengthAt b j) (drop (bodyOffset b j) b)) (take (bodyLengthAt b k) (drop (bodyOffset b k) b)))
-  where
-    go : (s t u v : Bool) → (s && t && u && v) ≡ ((s && t && u) && v)
-    go false t u v = refl
-    go true false u v = refl
-    go true true u v = refl
+    ≡ (sameBool (ltb j (cores b)) (ltb k (cores b)) && eqb (timestampAt b j) (timestampAt b k) && eqb (idAt b j) (idAt b k) && sameParts b (bodyOffset b j) (bodyLengthAt b j) (bodyOffset b k) (bodyLengthAt b k))
+unfolding sameSegment segmentAt sameParts
+segment-is b j k = refl
 
--- the sizes and the two heads that the code read, and what its two comparisons, of heads and of bodies, say of the segments
-module _ (b : List ℕ) (j k : ℕ) {s : Sizes} (q : s ≡ sizesAt b) {one other : Head} (p : one ≡ headAt b j) (r : other ≡ headAt b k)
-    {heads : Bool} (e : heads ≡ sameHead (s .cores) j one k other) where
-  read-is : heads ≡ sameHead (cores b) j (headAt b j) k (headAt b k)
-  read-is = let c : s .cores ≡ cores b = cores-read b q in cc
+-- what each test settles, of what the code read
+module _ (b : List ℕ) (j k : ℕ) where
+  pub other-id : {x y : ℕ} → x ≡ idAt b j → y ≡ idAt b k → (x ≡ y → ⊥) → sameSegment (segmentAt b j) (segmentAt b k) ≡ false
+  other-id p q d =
+      segment-is b j k ∙ rw (ne-eqb (idAt b j) (idAt b k) (λ e. d (p ∙ e ∙ sym q))) (go (sameBool (ltb j (cores b)) (ltb k (cores b))) (eqb (timestampAt b j) (timestampAt b k)) (sameParts b (bodyOffset b j) (bodyLengthAt b j) (bodyOffset b k) (bodyLengthAt b k)))
+    where
+      go : (s t u : Bool) → (s && t && false && u) ≡ false
+      go false t u = refl
+      go true false u = refl
+      go true true u = refl
 
-  pub other-head : heads ≡ false → sameSegment (segmentAt b j) (segmentAt b k) ≡ false
-  other-head h = segment-is b j k ∙ rw (sym read-is ∙ h)
+  pub other-time : {x y : ℕ} → x ≡ timestampAt b j → y ≡ timestampAt b k → (x ≡ y → ⊥) → sameSegment (segmentAt b j) (segmentAt b k) ≡ false
+  other-time p q d =
+      segment-is b j k ∙ rw (ne-eqb (timestampAt b j) (timestampAt b k) (λ e. d (p ∙ e ∙ sym q))) (go (sameBool (ltb j (cores b)) (ltb k (cores b))) (eqb (idAt b j) (idAt b k)) (sameParts b (bodyOffset b j) (bodyLengthAt b j) (bodyOffset b k) (bodyLengthAt b k)))
+    where
+      go : (s t u : Bool) → (s && false && t && u) ≡ false
+      go false t u = refl
+      go true t u = refl
 
-  pub by-bodies : heads ≡ true → {at n start m : ℕ} → at ≡ bodyOffset b j → n ≡ one .body → start ≡ bodyOffset b k → m ≡ other .body
-      → {bodies : Bool} → bodies ≡ sameParts b at n start m → sameSegment (segmentAt b j) (segmentAt b k) ≡ bodies
-  by-bodies h ea en et em t =
-      let x : one .body ≡ bodyLengthAt b j = length-read b j p in
-      let y : other .body ≡ bodyLengthAt b k = length-read b k r in
-      segment-is b j k ∙ rw (sym read-is ∙ h) (cc)
+  module _ {kinds : Bool} (e : kinds ≡ sameBool (ltb j (cores b)) (ltb k (cores b))) where
+    pub other-kind : kinds ≡ false → sameSegment (segmentAt b j) (segmentAt b k) ≡ false
+    other-kind h = segment-is b j k ∙ rw (sym e ∙ h)
+
+    pub by-bodies : idAt b j ≡ idAt b k → {x y : ℕ} → x ≡ timestampAt b j → y ≡ timestampAt b k → x ≡ y → kinds ≡ true
+        → {m n at start : ℕ} → m ≡ bodyLengthAt b j → n ≡ bodyLengthAt b k → at ≡ bodyOffset b j → start ≡ bodyOffset b k
+        → {bodies : Bool} → bodies ≡ sameParts b at m start n → sameSegment (segmentAt b j) (segmentAt b k) ≡ bodies
+    by-bodies i p q t h em en ea es r =
+        segment-is b j k
+        ∙ rw (sym e ∙ h, eq-eqb (timestampAt b j) (timestampAt b k) (sym p ∙ t ∙ q), eq-eqb (idAt b j) (idAt b k) i) (cc)
 
 -- ---- the first of equals
 
@@ -200,23 +178,9 @@ first-all b k =
     rw e (ap not (any-map (isEarlier (segmentAt b k)) (segmentAt b) (range 0 (segmentCount b))))
 
 module _ (b : List ℕ) (k j : ℕ) where
-  repeats-is : j < k → repeats b k j ≡ sameSegment (segmentAt b k) (segmentAt b j)
+  pub repeats-is : j < k → repeats b k j ≡ sameSegment (segmentAt b k) (segmentAt b j)
   unfolding repeats isEarlier segmentAt
   repeats-is h = rw (lt-ltb j k h)
-
-  module _ (before : j < k) {s : Sizes} (q : s ≡ sizesAt b) {one other : Head} (p : one ≡ headAt b k) (r : other ≡ headAt b j)
-      {heads : Bool} (e : heads ≡ sameHead (s .cores) k one j other) where
-    pub other-heads : heads ≡ false → repeats b k j ≡ false
-    other-heads h = repeats-is before ∙ other-head b k j q p r e h
-
-    pub same-heads : heads ≡ true → {at n start m : ℕ} → at ≡ bodyOffset b k → n ≡ one .body → start ≡ bodyOffset b j → m ≡ other .body
-        → {bodies : Bool} → bodies ≡ sameParts b at n start m → repeats b k j ≡ bodies
-    same-heads h ea en et em t = repeats-is before ∙ by-bodies b k j q p r e h ea en et em t
-
-  -- segments with different ids are not equal
-  pub other-ids : j < k → (idAt b j ≡ idAt b k → ⊥) → repeats b k j ≡ false
-  unfolding headAt
-  other-ids h d = repeats-is h ∙ segment-is b k j ∙ rw (other-id (cores b) k (headAt b k) j (headAt b j) (λ r. d (sym r)))
 
   repeats-not : k ≤ j → repeats b k j ≡ false
   unfolding repeats isEarlier segmentAt
@@ -236,45 +200,3 @@ module _ (b : List ℕ) (k j : ℕ) {count all : ℕ} (ec : count ≡ min k all)
 
   pub repeats-done : count ≤ j → any (repeats b k) (range j (segmentCount b - j)) ≡ false
   repeats-done h = none-from b k j (segmentCount b) (omega arith)
-
--- the positions below j and j itself have other ids than k
-pub none-more : (b : List ℕ) (k j : ℕ) → ((i : ℕ) → i < j → idAt b i ≡ idAt b k → ⊥) → {x y : ℕ} → x ≡ idAt b k → y ≡ idAt b j → (y ≡ x → ⊥)
-    → (i : ℕ) → i < j + 1 → idAt b i ≡ idAt b k → ⊥
-none-more b k j none p q d i h = go (ltb i j) refl
-  where
-    go : (t : Bool) → ltb i j ≡ t → idAt b i ≡ idAt b k → ⊥
-    go true e r = none i (ltb-true _ _ e) r
-    go false e r =
-        let l : j ≤ i = ltb-false _ _ e in
-        let s : i ≡ j = omega arith in
-        d (q ∙ sym (ap (idAt b) s) ∙ r ∙ sym p)
-
-none-in : (p : ℕ → Bool) (i left : ℕ) → ((j : ℕ) → i ≤ j → j < i + left → p j ≡ false) → any p (range i left) ≡ false
-unfolding any range
-none-in p i zero h = refl
-none-in p i (suc left) h = rw (h i (omega arith) (omega arith)) (none-in p (i + 1) left (λ j a d. h j (omega arith) (omega arith)))
-
--- no position that could has the id
-pub no-repeat : (b : List ℕ) (k : ℕ) {count all : ℕ} → count ≡ min k all → all ≡ segmentCount b
-    → ((j : ℕ) → j < count → idAt b j ≡ idAt b k → ⊥) → isFirst (segments b) (segmentAt b k) ≡ true
-no-repeat b k ec ea none =
-    first-all b k ∙ ap not (none-in (repeats b k) 0 (segmentCount b - 0) (λ j a h. go j (omega arith) (ltb j k) refl))
-  where
-    go : (j : ℕ) → j < segmentCount b → (t : Bool) → ltb j k ≡ t → repeats b k j ≡ false
-    go j h true q = let l : j < k = ltb-true _ _ q in other-ids b k j l (none j (omega arith))
-    go j h false q = let l : k ≤ j = ltb-false _ _ q in repeats-not b k j l
-
-filter-map : {A B : Type 0} (f : A → B) (p : B → Bool) (xs : List A) → filter p (map f xs) ≡ map f (filter (λ x. p (f x)) xs)
-unfolding filter
-filter-map f p [] = refl
-filter-map f p (x ∷ xs) = go (p (f x)) (filter-map f p xs)
-  where
-    go : (t : Bool) → filter p (map f xs) ≡ map f (filter (λ y. p (f y)) xs)
-        → (if t then f x ∷ filter p (map f xs) else filter p (map f xs)) ≡ map f (if t then x ∷ filter (λ y. p (f y)) xs else filter (λ y. p (f y)) xs)
-    go true e = ap (λ l. f x ∷ l) e
-    go false e = e
-
--- the segments that count, by position
-pub firsts-are : (b : List ℕ) → firsts (segments b) ≡ map (segmentAt b) (filter (λ k. isFirst (segments b) (segmentAt b k)) (range 0 (segmentCount b)))
-unfolding firsts segments
-firsts-are b = filter-map (segmentAt b) (isFirst (map (segmentAt b) (range 0 (segmentCount b)))) (range 0 (segmentCount b))

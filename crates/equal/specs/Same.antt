@@ -1,17 +1,10 @@
--- The two halves of `sameSegment`, by position.
+-- Bodies compared, by their places in the book.
 -- Assumes nothing.
 use Prim.Native.Nat.{ℕ}
-use mathlib.Core.Bool.{Bool, _&&_}
+use mathlib.Core.Bool.{Bool}
 use mathlib.Core.List.{List}
 use lib.ListN.{take, drop}
-use lib.Dec.{ltb, eqb}
-use Rattle.spec.specs.declared.Head.{Head}
 use Rattle.spec.specs.Basics.{sameList}
-use Rattle.spec.specs.Edges.{sameBool}
-
--- kind, timestamp and id, of the segments at j and k in a book with so many core segments
-unfoldable pub sameHead : ℕ → ℕ → Head → ℕ → Head → Bool
-sameHead cores j one k other = sameBool (ltb j cores) (ltb k cores) && eqb (one .timestamp) (other .timestamp) && eqb (one .id) (other .id)
 
 -- the m bytes at i and the n at j, of either only those that lie in the book
 unfoldable pub sameParts : List ℕ → ℕ → ℕ → ℕ → ℕ → Bool

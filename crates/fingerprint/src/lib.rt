@@ -2,13 +2,14 @@
 // any bytes: what lies past the book's end reads as 0.
 ghost use mathlib.Core.Path.{_≡_};
 ghost use Prim.Native.Nat.{_+_, _*_, _^_, _≤_, _<_, min};
-ghost use lib.ListN.{take};
+ghost use lib.ListN.{length, take, drop};
 ghost use Rattle.spec.specs.Limits.{maxEntries};
 ghost use Rattle.spec.specs.Book.{segmentAt, entryAt};
 ghost use Rattle.spec.specs.Order.{entryInput, fingerprintInput};
 ghost use Rattle.output.specs.Write.{written};
 ghost use Rattle.sha256.specs.Message.{sha256};
 ghost use Rattle.fingerprint.specs.Print.{inputSize, inputs};
+use spec::AsEntry;
 use spec::Limits;
 
 // The bytes of an entry that its segment's fingerprint takes in, and of a segment's.
@@ -28,14 +29,39 @@ fn least(a: usize, b: usize) -> usize
     if a < b { a } else { b }
 }
 
-// Writes what the entry at an offset gives, from `place` on.
-fn put_entry(book: &[u8], message: &mut [u8], place: usize, at: usize)
+// Copies n bytes of `src` from index `from` on over those of `dst` from index `at` on.
+fn copy(src: &[u8], from: usize, dst: &mut [u8], at: usize, n: usize)
+    requires { ⌜ (from + n ≤ length (now src)) × (at + n ≤ length (now dst)) ⌝ }
+    ensures { λ r. ⌜ now (dst .exit) ≡ written (now (dst .entry)) at (take n (drop from (now (src .entry)))) ⌝ }
+{
+    let mut j = 0;
+    while j < n {
+        dst[at + j] = src[from + j];
+        j += 1;
+    }
+}
+
+// Writes what the entry at an offset gives, from `place` on, number by number: the book may end within it.
+fn put_numbers(book: &[u8], message: &mut [u8], place: usize, at: usize)
     requires { ⌜ place < 2 ^ 32 ⌝ }
     ensures { λ r. ⌜ now (message .exit) ≡ written (now (message .entry)) place (entryInput (entryAt (now (book .entry)) at)) ⌝ }
 {
     output::put64(message, place, octets::be64(book, at));
     output::put16(message, place + 8, octets::be16_past(book, at, 14));
     output::put16(message, place + 10, octets::be16_past(book, at, 16));
+}
+
+// The same. An entry that lies in the book is copied: its AS stands first, ingress and egress side by side.
+fn put_entry(book: &[u8], message: &mut [u8], place: usize, at: usize)
+    requires { ⌜ (place + inputSize ≤ length (now message)) × (place < 2 ^ 32) × (at < 2 ^ 33) ⌝ }
+    ensures { λ r. ⌜ now (message .exit) ≡ written (now (message .entry)) place (entryInput (entryAt (now (book .entry)) at)) ⌝ }
+{
+    if at + AsEntry::SIZE <= book.len() {
+        copy(book, at, message, place, 8);
+        copy(book, at + 14, message, place + 8, 4);
+    } else {
+        put_numbers(book, message, place, at);
+    }
 }
 
 // What `count` entries from `start` on give, and zeros.

@@ -71,6 +71,12 @@ fn wide16(b: u8) -> u16
     b as u16
 }
 
+fn byte32(b: u8) -> u32
+    ensures { λ r. ⌜ (r ≡ b) × (r < 256) ⌝ }
+{
+    b as u32
+}
+
 fn wide32(x: u16) -> u32
     ensures { λ r. ⌜ (r ≡ x) × (r < 65536) ⌝ }
 {
@@ -102,11 +108,15 @@ fn within16(s: &[u8], at: usize) -> u16
     wide16(s[at]) * 256 + wide16(s[at + 1])
 }
 
+// One sum, which compiles to a load and a byte swap.
 fn within32(s: &[u8], at: usize) -> u32
     requires { ⌜ at + 4 ≤ length (now s) ⌝ }
     ensures { λ r. ⌜ r ≡ be32 (now (s .entry)) at ⌝ }
 {
-    wide32(within16(s, at)) * 65536 + wide32(within16(s, at + 2))
+    byte32(s[at]) * 16777216
+        + byte32(s[at + 1]) * 65536
+        + byte32(s[at + 2]) * 256
+        + byte32(s[at + 3])
 }
 
 fn within64(s: &[u8], at: usize) -> u64
