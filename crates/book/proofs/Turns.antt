@@ -1,14 +1,15 @@
 -- The turns of the loops that answer about a book: what a definition's recursion says at one step, by cases of the tests.
 -- What the code holds stands as a variable, beside the equation that says what it is.
 -- Assumes nothing.
-use mathlib.Core.Path.{_≡_, sym, ap, _∙_}
+use mathlib.Core.Path.{_≡_, refl, sym, ap, _∙_}
 use mathlib.Core.Bool.{Bool, true, false, not}
 use mathlib.Core.List.{List}
 use Prim.Native.Nat.{ℕ, zero, suc, _+_, _*_, _-_, _≤_, _<_}
+use native.Mathlib.Decide.{ℕ-discrete}
 use native.Mathlib.Omega.{arith}
-use lib.ListN.{length}
-use lib.Dec.{eqb}
-use borrow.Author.Tests.{lt-ltb, le-ltb, eq-eqb, ne-eqb}
+use lib.ListN.{length, getD}
+use lib.Dec.{eqb, ltb}
+use borrow.Author.Tests.{lt-ltb, le-ltb, ltb-true, ltb-false, eq-eqb, ne-eqb, eqb-true, not-false}
 use Rattle.spec.specs.declared.Sizes.{Sizes}
 use Rattle.spec.specs.declared.Refusal.{Refusal}
 use Rattle.spec.specs.declared.Refusal.the-variants.{Cut, Surplus, Oversize, Crowded, Long, Peers, Misfit}
@@ -16,48 +17,76 @@ use Rattle.spec.specs.declared.Verdict.{Verdict}
 use Rattle.spec.specs.declared.Verdict.the-variants.{Accepted, Refused}
 use Rattle.spec.specs.Limits.{sizesSize, maxBook, maxSegments, maxEntries, maxPeers, entrySize, peerSize}
 use Rattle.spec.specs.Basics.{if_then_else_, any, range}
-use Rattle.spec.specs.Book.{segmentCount, bodyTotal, entryCountAt, bodyLengthAt, lengthsBelow, bodyOffset, wholeLength, sizesAt, peerCount, entryEnd, entriesVerdict, bodyVerdict, bodiesVerdict, isLong, tooLong, verdict}
-use Rattle.segment.proofs.Positions.{one-less}
+use Rattle.spec.specs.Book.{segmentCount, bodyTotal, entryCountAt, bodyLengthAt, lengthsBelow, bodyOffset, wholeLength, sizesAt, peerCount, entryEnd, entriesVerdict, bodyVerdict, _andThen_, bodiesVerdict, isLong, tooLong, verdict}
+use Rattle.spec.proofs.Membership.{not-both}
+use Rattle.spec.proofs.OnceLaws.{any-mem}
+use Rattle.spec.proofs.BookLaws.{passed, mem-range}
+use Rattle.segment.proofs.Positions.{one-less, body-more}
 use Rattle.segment.proofs.Fields.{total-read}
 use Rattle.segment.proofs.Fitting.{end-is}
+use Rattle.book.specs.Sizes.{sizesVerdict, Sized, Body}
 
 -- ---- the entries of a body
 
+-- the entries left of a body from an offset on, which lies past its end where the peers before it are lacking
+unfoldable pub restVerdict : List ℕ → ℕ → ℕ → ℕ → Verdict
+restVerdict b end at left = if ltb end at then Refused Misfit else entriesVerdict b end at left
+
 module _ (b : List ℕ) (end at : ℕ) where
-  pub entries-lack : (left : ℕ) → 0 < left → end < at + entrySize → entriesVerdict b end at left ≡ Refused Misfit
+  rest-is : (left : ℕ) → at ≤ end → entriesVerdict b end at left ≡ restVerdict b end at left
+  unfolding restVerdict
+  rest-is left h = rw (le-ltb end at h)
+
+  pub rest-first : (n : ℕ) → at ≤ end → entriesVerdict b end at n ≡ restVerdict b end at (n - 0)
+  rest-first n h = let e : n ≡ n - 0 = omega arith in ap (entriesVerdict b end at) e ∙ rest-is (n - 0) h
+
+  rest-past : (left : ℕ) → end < at → restVerdict b end at left ≡ Refused Misfit
+  unfolding restVerdict
+  rest-past left h = rw (lt-ltb end at h)
+
+  entries-lack : (left : ℕ) → end < at + entrySize → entriesVerdict b end at (suc left) ≡ Refused Misfit
   unfolding entriesVerdict
-  entries-lack zero h l = absurd (omega arith)
-  entries-lack (suc n) h l = rw (lt-ltb end (at + entrySize) l)
+  entries-lack left l = rw (lt-ltb end (at + entrySize) l)
+
+  pub rest-lack : (n i : ℕ) → i < n → end < at + entrySize → restVerdict b end at (n - i) ≡ Refused Misfit
+  rest-lack n i h l = rw (one-less n i h) (go (ltb end at) refl)
+    where
+      go : (t : Bool) → ltb end at ≡ t → restVerdict b end at (suc (n - (i + 1))) ≡ Refused Misfit
+      go true q = rest-past _ (ltb-true end at q)
+      go false q = sym (rest-is _ (ltb-false end at q)) ∙ entries-lack _ l
 
   module _ (room : at + entrySize ≤ end) {peers : ℕ} (ep : peers ≡ peerCount b at) where
-    pub entries-peers : (left : ℕ) → 0 < left → maxPeers < peers → entriesVerdict b end at left ≡ Refused Peers
+    pub rest-peers : (n i : ℕ) → i < n → maxPeers < peers → restVerdict b end at (n - i) ≡ Refused Peers
     unfolding entriesVerdict
-    entries-peers zero h p = absurd (omega arith)
-    entries-peers (suc n) h p = rw (le-ltb end (at + entrySize) room, lt-ltb maxPeers (peerCount b at) (rw ep at p))
+    rest-peers n i h p =
+        sym (rest-is _ (omega arith)) ∙ rw (one-less n i h, le-ltb end (at + entrySize) room, lt-ltb maxPeers (peerCount b at) (rw ep at p))
 
-    module _ (few : peers ≤ maxPeers) {size : ℕ} (es : size ≡ entrySize + peerSize * peerCount b at) where
-      pub peers-lack : (left : ℕ) → 0 < left → end < at + size → entriesVerdict b end at left ≡ Refused Misfit
-      unfolding entriesVerdict
-      peers-lack zero h q = absurd (omega arith)
-      peers-lack (suc n) h q =
-          rw (le-ltb end (at + entrySize) room, le-ltb maxPeers (peerCount b at) (rw ep at few), lt-ltb end (entryEnd b at) (rw (end-is b at es) at q))
+    module _ (few : peers ≤ maxPeers) where
+      entries-next : (left : ℕ) → entriesVerdict b end at (suc left) ≡ restVerdict b end (entryEnd b at) left
+      unfolding entriesVerdict restVerdict
+      entries-next left = rw (le-ltb end (at + entrySize) room, le-ltb maxPeers (peerCount b at) (rw ep at few))
 
-      pub entries-next : (left : ℕ) → 0 < left → at + size ≤ end → entriesVerdict b end at left ≡ entriesVerdict b end (at + size) (left - 1)
-      unfolding entriesVerdict
-      entries-next zero h q = absurd (omega arith)
-      entries-next (suc n) h q =
-          let e : suc n - 1 ≡ n = omega arith in
-          rw (e, end-is b at es, le-ltb end (at + entrySize) room, le-ltb maxPeers (peerCount b at) (rw ep at few), le-ltb end (entryEnd b at) (rw (end-is b at es) at q))
+      pub rest-next : (n i : ℕ) → i < n → restVerdict b end at (n - i) ≡ restVerdict b end (at + (entrySize + peerSize * peers)) (n - (i + 1))
+      rest-next n i h =
+          sym (rest-is _ (omega arith)) ∙ rw (one-less n i h, end-is b at (ap (λ p. entrySize + peerSize * p) ep)) (entries-next (n - (i + 1)))
 
-  pub bytes-left : (left : ℕ) → left ≤ 0 → at < end → entriesVerdict b end at left ≡ Refused Misfit
+  pub rest-off : (n i : ℕ) → n ≤ i → (at ≡ end → ⊥) → restVerdict b end at (n - i) ≡ Refused Misfit
+  rest-off n i h d = let e : n - i ≡ 0 = omega arith in rw e (go (ltb end at) refl)
+    where
+      short : at ≤ end → entriesVerdict b end at 0 ≡ Refused Misfit
+      short l = unfold entriesVerdict in rw (lt-ltb at end (omega (arith, d)))
+
+      go : (t : Bool) → ltb end at ≡ t → restVerdict b end at 0 ≡ Refused Misfit
+      go true q = rest-past _ (ltb-true end at q)
+      go false q = sym (rest-is _ (ltb-false end at q)) ∙ short (ltb-false end at q)
+
+  pub rest-fill : (n i : ℕ) → n ≤ i → at ≡ end → restVerdict b end at (n - i) ≡ Accepted
   unfolding entriesVerdict
-  bytes-left zero h l = rw (lt-ltb at end l)
-  bytes-left (suc n) h l = absurd (omega arith)
+  rest-fill n i h l = let e : n - i ≡ 0 = omega arith in rw e (sym (rest-is 0 (omega arith)) ∙ rw (le-ltb at end (omega arith)))
 
-  pub entries-fill : (left : ℕ) → left ≤ 0 → end ≤ at → entriesVerdict b end at left ≡ Accepted
-  unfolding entriesVerdict
-  entries-fill zero h l = rw (le-ltb at end l)
-  entries-fill (suc n) h l = absurd (omega arith)
+pub peers-here : (b : List ℕ) (at : ℕ) → getD b (at + 25) 0 ≡ peerCount b at
+unfolding peerCount
+peers-here b at = refl
 
 -- ---- the bodies by position
 
@@ -67,6 +96,9 @@ module _ (b : List ℕ) (n k : ℕ) where
       → v ≡ entriesVerdict b (at + size) at count → bodyVerdict b k ≡ v
   unfolding bodyVerdict
   body-says ea es ec q = cc
+
+  pub bodies-first : n ≡ segmentCount b → bodiesVerdict b 0 (segmentCount b) ≡ bodiesVerdict b 0 (n - 0)
+  bodies-first h = let e : segmentCount b ≡ n - 0 = omega arith in ap (bodiesVerdict b 0) e
 
   pub bodies-refused : (r : Refusal) → k < n → bodyVerdict b k ≡ Refused r → bodiesVerdict b k (n - k) ≡ Refused r
   unfolding bodiesVerdict
@@ -111,48 +143,127 @@ unfolding bodyOffset wholeLength
 sum-wrong b k w e = omega arith
 
 module _ (b : List ℕ) where
-  pub oversize : maxBook < length b → verdict b ≡ Refused Oversize
-  unfolding verdict
+  pub oversize : maxBook < length b → sizesVerdict b ≡ Refused Oversize
+  unfolding sizesVerdict
   oversize h = rw (lt-ltb maxBook (length b) h)
 
   module _ (small : length b ≤ maxBook) where
-    pub cut-sizes : length b < sizesSize → verdict b ≡ Refused Cut
-    unfolding verdict
+    pub cut-sizes : length b < sizesSize → sizesVerdict b ≡ Refused Cut
+    unfolding sizesVerdict
     cut-sizes h = rw (le-ltb maxBook (length b) small, lt-ltb (length b) sizesSize h)
 
     module _ (begun : sizesSize ≤ length b) {all : ℕ} (ea : all ≡ segmentCount b) where
-      pub crowded : maxSegments < all → verdict b ≡ Refused Crowded
-      unfolding verdict
+      pub crowded : maxSegments < all → sizesVerdict b ≡ Refused Crowded
+      unfolding sizesVerdict
       crowded h = rw (le-ltb maxBook (length b) small, le-ltb (length b) sizesSize begun, lt-ltb maxSegments (segmentCount b) (rw ea at h))
 
       module _ (crowd : all ≤ maxSegments) {at : ℕ} (eo : at ≡ bodyOffset b 0) {sizes : Sizes} (es : sizes ≡ sizesAt b) where
-        pub cut : length b < at + sizes .bodies → verdict b ≡ Refused Cut
-        unfolding verdict
+        pub cut : length b < at + sizes .bodies → sizesVerdict b ≡ Refused Cut
+        unfolding sizesVerdict
         cut h =
             rw (le-ltb maxBook (length b) small, le-ltb (length b) sizesSize begun, le-ltb maxSegments (segmentCount b) (rw ea at crowd), lt-ltb (length b) (wholeLength b) (rw (whole-is b eo es) at h))
 
         module _ (there : at + sizes .bodies ≤ length b) where
-          pub surplus : at + sizes .bodies < length b → verdict b ≡ Refused Surplus
-          unfolding verdict
+          pub surplus : at + sizes .bodies < length b → sizesVerdict b ≡ Refused Surplus
+          unfolding sizesVerdict
           surplus h =
               rw (le-ltb maxBook (length b) small, le-ltb (length b) sizesSize begun, le-ltb maxSegments (segmentCount b) (rw ea at crowd), le-ltb (length b) (wholeLength b) (rw (whole-is b eo es) at there), lt-ltb (wholeLength b) (length b) (rw (whole-is b eo es) at h))
 
           module _ (no-more : length b ≤ at + sizes .bodies) {t : Bool} (et : t ≡ tooLong b) where
             -- past the tests on the sizes
-            sized : verdict b ≡ (if t then Refused Long else if not (eqb (lengthsBelow b all) (bodyTotal b)) then Refused Misfit else bodiesVerdict b 0 all)
-            unfolding verdict
+            sized : sizesVerdict b ≡ (if t then Refused Long else if not (eqb (lengthsBelow b all) (bodyTotal b)) then Refused Misfit else Accepted)
+            unfolding sizesVerdict
             sized =
                 rw (le-ltb maxBook (length b) small, le-ltb (length b) sizesSize begun, le-ltb maxSegments (segmentCount b) (rw ea at crowd), le-ltb (length b) (wholeLength b) (rw (whole-is b eo es) at there), le-ltb (wholeLength b) (length b) (rw (whole-is b eo es) at no-more), et, ea)
 
             whole : wholeLength b ≡ length b
             whole = omega (arith, whole-is b eo es)
 
-            pub long : t ≡ true → verdict b ≡ Refused Long
+            pub long : t ≡ true → sizesVerdict b ≡ Refused Long
             long h = sized ∙ rw h
 
             module _ (short : t ≡ false) {end : ℕ} (ee : end ≡ bodyOffset b all) where
-              pub wrong-sum : (end ≡ length b → ⊥) → verdict b ≡ Refused Misfit
+              pub wrong-sum : (end ≡ length b → ⊥) → sizesVerdict b ≡ Refused Misfit
               wrong-sum h = sized ∙ rw (short, ne-eqb (lengthsBelow b all) (bodyTotal b) (λ e. h (ee ∙ sum-wrong b all whole e)))
 
-              pub by-bodies : end ≡ length b → {v : Verdict} → v ≡ bodiesVerdict b 0 all → verdict b ≡ v
-              by-bodies h q = sized ∙ rw (short, eq-eqb (lengthsBelow b all) (bodyTotal b) (sum-right b all whole (sym ee ∙ h))) (sym q)
+              pub right-sum : end ≡ length b → sizesVerdict b ≡ Accepted
+              right-sum h = sized ∙ rw (short, eq-eqb (lengthsBelow b all) (bodyTotal b) (sum-right b all whole (sym ee ∙ h)))
+
+-- ---- the sizes, then the bodies
+
+module _ (w : Verdict) where
+  then-if : (t : Bool) (r : Refusal) (v x : Verdict) → (v andThen w) ≡ x → ((if t then Refused r else v) andThen w) ≡ (if t then Refused r else x)
+  then-if true r v x q = refl
+  then-if false r v x q = q
+
+module _ (b : List ℕ) where
+  then-bodies : (sizesVerdict b andThen bodiesVerdict b 0 (segmentCount b)) ≡ verdict b
+  unfolding sizesVerdict verdict
+  then-bodies =
+      let w : Verdict = bodiesVerdict b 0 (segmentCount b) in
+      then-if w (ltb maxBook (length b)) Oversize _ _
+      (then-if w (ltb (length b) sizesSize) Cut _ _
+      (then-if w (ltb maxSegments (segmentCount b)) Crowded _ _
+      (then-if w (ltb (length b) (wholeLength b)) Cut _ _
+      (then-if w (ltb (wholeLength b) (length b)) Surplus _ _
+      (then-if w (tooLong b) Long _ _ (then-if w (not (eqb (lengthsBelow b (segmentCount b)) (bodyTotal b))) Misfit _ _ refl))))))
+
+  pub by-sizes : {v : Verdict} {r : Refusal} → v ≡ sizesVerdict b → v ≡ Refused r → v ≡ verdict b
+  by-sizes {r = r} e q = q ∙ sym (ap (λ w. w andThen bodiesVerdict b 0 (segmentCount b)) (sym e ∙ q)) ∙ then-bodies
+
+  module _ {s : Verdict} (e : s ≡ sizesVerdict b) (q : s ≡ Accepted) where
+    pub by-bodies : {v : Verdict} → v ≡ bodiesVerdict b 0 (segmentCount b) → v ≡ verdict b
+    by-bodies p = p ∙ sym (ap (λ w. w andThen bodiesVerdict b 0 (segmentCount b)) (sym e ∙ q)) ∙ then-bodies
+
+    pub sized-book : Sized b
+    unfolding sizesVerdict
+    sized-book =
+        let p₁ = passed (ltb maxBook (length b)) Oversize _ (sym e ∙ q) in
+        let p₂ = passed (ltb (length b) sizesSize) Cut _ (p₁ .1) in
+        let p₃ = passed (ltb maxSegments (segmentCount b)) Crowded _ (p₂ .1) in
+        let p₄ = passed (ltb (length b) (wholeLength b)) Cut _ (p₃ .1) in
+        let p₅ = passed (ltb (wholeLength b) (length b)) Surplus _ (p₄ .1) in
+        let p₆ = passed (tooLong b) Long _ (p₅ .1) in
+        let p₇ = passed (not (eqb (lengthsBelow b (segmentCount b)) (bodyTotal b))) Misfit _ (p₆ .1) in
+        record {
+          small = ltb-false _ _ (p₁ .0);
+          crowd = ltb-false _ _ (p₃ .0);
+          short = p₆ .0;
+          whole = sum-wrong b (segmentCount b) (omega (arith, ltb-false (length b) (wholeLength b) (p₄ .0), ltb-false (wholeLength b) (length b) (p₅ .0))) (eqb-true _ _ (not-false _ (p₇ .0)));
+        }
+
+-- ---- a book whose sizes are right
+
+offset-suc : (b : List ℕ) (k : ℕ) → bodyOffset b (suc k) ≡ bodyOffset b k + bodyLengthAt b k
+unfolding bodyOffset lengthsBelow
+offset-suc b k = omega arith
+
+offset-up : (b : List ℕ) (k n : ℕ) → k ≤ n → bodyOffset b k ≤ bodyOffset b n
+offset-up b k zero h = let e : k ≡ 0 = omega arith in rw e (omega arith)
+offset-up b k (suc n) h = go (offset-up b k n) (ℕ-discrete k (suc n))
+  where
+    go : (k ≤ n → bodyOffset b k ≤ bodyOffset b n) → Dec (k ≡ suc n) → bodyOffset b k ≤ bodyOffset b (suc n)
+    go below (yes e) = rw e (omega arith)
+    go below (no d) = omega (arith, below (omega (arith, d)), offset-suc b n)
+
+module _ (b : List ℕ) (z : Sized b) (k : ℕ) (h : k < segmentCount b) where
+  head-short : entryCountAt b k ≤ maxEntries
+  unfolding tooLong isLong
+  head-short = go (ltb maxEntries (entryCountAt b k)) refl
+    where
+      go : (t : Bool) → ltb maxEntries (entryCountAt b k) ≡ t → entryCountAt b k ≤ maxEntries
+      go true q = not-both (any-mem (isLong b) (range 0 (segmentCount b)) (mem-range 0 (segmentCount b) k (omega arith) (omega arith)) q) (z .short)
+      go false q = ltb-false _ _ q
+
+  pub body-fits : {at size count : ℕ} → at ≡ bodyOffset b k → size ≡ bodyLengthAt b k → count ≡ entryCountAt b k → Body b k at (at + size) count
+  body-fits ea es ec =
+      record {
+        position = omega (arith, z .crowd);
+        entries = omega (arith, head-short);
+        filled = omega arith;
+        inside = omega (arith, offset-up b (k + 1) (segmentCount b) (omega arith), body-more b k, z .whole);
+        small = z .small;
+      }
+
+pub not-accepted : {A : Type 0} {r : Refusal} → Refused r ≡ Accepted → A
+not-accepted q = let z : _≡_ {A = ℕ} 0 1 = cc in absurd (omega arith)

@@ -2,8 +2,9 @@
 // answers for any bytes: what lies past the book's end reads as 0.
 mod answer;
 mod numbers;
-mod offsets;
+mod rows;
+mod sizes;
 
+pub use answer::open;
 pub use answer::verdict;
-pub use offsets::PLACES;
-pub use offsets::entry_offsets;
+pub use rows::PLACES;

@@ -13,6 +13,7 @@ use Rattle.spec.specs.declared.Vertex.{Vertex}
 use Rattle.spec.specs.declared.Vertex.the-variants.{AS, Peering}
 use Rattle.spec.specs.declared.PeerEntry.{PeerEntry}
 use Rattle.spec.specs.declared.Sizes.{Sizes}
+use Rattle.spec.specs.declared.Verdict.{Verdict}
 use Rattle.spec.specs.declared.Verdict.the-variants.{Accepted}
 use Rattle.spec.specs.declared.Edge.{Edge}
 use Rattle.spec.specs.Limits.{maxSegments, maxEntries}
@@ -24,9 +25,9 @@ use Rattle.spec.proofs.Membership.{not-both}
 use Rattle.spec.proofs.Vertices.{sameAs-eq, sameVertex-eq, eq-sameVertex}
 use Rattle.spec.proofs.OnceLaws.{any-mem, segment-position}
 use Rattle.spec.proofs.BookLaws.{AcceptedBook, accepted, mem-range, entry-count, segment-length}
-use Rattle.book.specs.Offsets.{offsetTable}
+use Rattle.book.specs.Offsets.{openTable}
 use Rattle.segment.proofs.Fitting.{position-small}
-use Rattle.book.proofs.Tables.{table-as, table-peers, table-peer}
+use Rattle.book.proofs.Tables.{open-accepted, table-as, table-peers, table-peer}
 use Rattle.graph.specs.declared.edges.Link.{Link}
 use Rattle.spec.specs.Chains.{leaves}
 use Rattle.graph.specs.Lookup.{hasEnds, between, leavingOf}
@@ -37,6 +38,10 @@ use Rattle.graph.specs.Link.{endOf, samePeer}
 use Rattle.graph.proofs.LookupScan.{when, any-first, first-passes, is-last}
 use Rattle.graph.proofs.LookupLaws.{up-as, down-as, down-link, no-leaf, core-as, core-peering, core-leaving, none-stored, as-eq, eq-sameAs, as-not-peering}
 use Rattle.graph.proofs.LeavingLaws.{linked, peer-last, link-own}
+
+-- what `book::open` leaves of an accepted book
+pub opened-ready : (b t : List ℕ) {v : Verdict} → v ≡ verdict b → t ≡ openTable b → v ≡ Accepted → Ready b t
+opened-ready b t p e q = record { ok = sym p ∙ q; table = e ∙ open-accepted b p q }
 
 pub count-read : (b : List ℕ) (k : ℕ) → entryCount (segmentAt b k) ≡ entryCountAt b k
 unfolding entryCount

@@ -31,11 +31,10 @@ use Rattle.graph.specs.declared.Found.the-variants.{Edge as FoundEdge, N
 use Rattle.graph.specs.Lookup.{foundEdges}
 use Rattle.graph.specs.Identity.{identifiedIn}
 use Rattle.graph.specs.Pushed.{recordOctets}
-use Rattle.graph.specs.Recorded.{isRecordOf, recordedChains, Recorded, recorded, tableOn}
+use Rattle.graph.specs.Recorded.{isRecordOf, recordedChains, Recorded, recorded}
 use Rattle.graph.specs.Named.{ahead, withIdentities, leadsBy, isWay, passing, chainsNamed}
 use Rattle.graph.proofs.PushedRecords.{record-length, record-of}
 use Rattle.graph.proofs.SearchLists.{filter-same}
-use Rattle.book.specs.Offsets.{offsetTable}
 use Rattle.graph.proofs.RecordedLaws.{recorded-accepted, recorded-refused}
 use Rattle.graph.proofs.NamedLaws.{with-sound, named-recorded}
 
@@ -241,11 +240,5 @@ module _ (b : List ℕ) (v : Verdict) (p : v ≡ verdict b) where
   pub refused-said : (src dst : IsdAsn) (r : List ℕ) (x : Refusal) → v ≡ RefusedBook x → _≡_ {A = Recorded} (RefusedBook x, []) (recorded b src dst r)
   refused-said src dst r x q = sym (recorded-refused b src dst r x (sym p ∙ q))
 
-  pub refused-table : (old : List ℕ) (x : Refusal) → v ≡ RefusedBook x → old ≡ tableOn (verdict b) (offsetTable b) old
-  refused-table old x q = sym (ap (λ w. tableOn w (offsetTable b) old) (sym p ∙ q))
-
   pub accepted-said : (src dst : IsdAsn) (r : List ℕ) (s : Recorded) → v ≡ Accepted → s ≡ (Accepted, recordedChains b src dst r) → s ≡ recorded b src dst r
   accepted-said src dst r s q e = e ∙ sym (recorded-accepted b src dst r (sym p ∙ q))
-
-  pub accepted-table : (new old : List ℕ) → v ≡ Accepted → new ≡ offsetTable b → new ≡ tableOn (verdict b) (offsetTable b) old
-  accepted-table new old q e = e ∙ sym (ap (λ w. tableOn w (offsetTable b) old) (sym p ∙ q))

@@ -48,8 +48,3 @@ recordedOn (RefusedBook r) found = (RefusedBook r, [])
 
 unfoldable pub recorded : List ℕ → IsdAsn → IsdAsn → List ℕ → Recorded
 recorded b src dst r = recordedOn (verdict b) (recordedChains b src dst r)
-
--- the table of offsets that `chain` leaves
-abbrev pub tableOn : Verdict → List ℕ → List ℕ → List ℕ
-tableOn Accepted new old = new
-tableOn (RefusedBook r) new old = old

@@ -4,15 +4,14 @@ ghost use mathlib.Core.Bool.{_&&_, not};
 ghost use mathlib.Core.List.{[], _∷_};
 ghost use Rattle.spec.specs.declared.Verdict.the-variants.{Accepted};
 ghost use Rattle.spec.specs.Basics.{sameList};
-ghost use Rattle.spec.specs.Book.{verdict};
 ghost use Rattle.spec.specs.Edges.{sameVertex};
 ghost use Rattle.spec.specs.Records.{recordEdge};
-ghost use Rattle.book.specs.Offsets.{offsetTable};
+ghost use Rattle.book.specs.Offsets.{openTable};
 ghost use Rattle.graph.specs.Lookup.{foundEdges};
 ghost use Rattle.graph.specs.Identity.{identifiedIn};
 ghost use Rattle.graph.specs.Pushed.{recordOctets};
 ghost use Rattle.graph.specs.Ready.{Ready};
-ghost use Rattle.graph.specs.Recorded.{saidBy, recorded, recordedChains, tableOn};
+ghost use Rattle.graph.specs.Recorded.{saidBy, recorded, recordedChains};
 ghost use Rattle.graph.specs.Named.{ahead, withIdentities, leadsBy, isWay, passing};
 use crate::Chain;
 use crate::Found;
@@ -345,13 +344,11 @@ pub fn chain_of(
     given: &[u8],
     table: &mut [u16; PLACES],
 ) -> Chain
-    ensures { λ r. ⌜ (saidBy r ≡ recorded (now (book .entry)) src dst (now (given .entry))) × (now (table .exit) ≡ tableOn (verdict (now (book .entry))) (offsetTable (now (book .entry))) (now (table .entry))) ⌝ }
+    ensures { λ r. ⌜ (saidBy r ≡ recorded (now (book .entry)) src dst (now (given .entry))) × (now (table .exit) ≡ openTable (now (book .entry))) ⌝ }
 {
-    let v = book::verdict(book);
+    let v = book::open(book, table);
     if let Verdict::Refused(r) = v {
         return Chain::Refused(r);
     }
-    let made = book::entry_offsets(book);
-    *table = made;
-    chain_in(src, dst, book, &made, given)
+    chain_in(src, dst, book, table, given)
 }

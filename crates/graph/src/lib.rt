@@ -4,16 +4,16 @@ ghost use mathlib.Core.Path.{_≡_};
 ghost use Prim.Native.Nat.{_*_, _/_, min};
 ghost use lib.ListN.{length};
 ghost use Rattle.sha256.specs.Message.{sha256};
-ghost use Rattle.spec.specs.declared.Verdict.the-variants.{Accepted};
-ghost use Rattle.spec.specs.Book.{verdict};
 ghost use Rattle.spec.specs.Records.{slots};
 ghost use Rattle.spec.specs.Answers.{listing};
+ghost use Rattle.graph.specs.Ready.{Ready};
 
 mod chains;
 mod edges;
 mod search;
 mod slots;
 
+use book::PLACES;
 pub use chains::chain_of;
 use spec::Edge;
 use spec::IsdAsn;
@@ -51,13 +51,18 @@ fn slots_of(bytes: usize) -> usize
 }
 
 // The list of an accepted book.
-fn list_accepted(src: IsdAsn, dst: IsdAsn, book: &[u8], out: &mut [u8]) -> ListAnswer
-    requires { ⌜ verdict (now book) ≡ Accepted ⌝ }
+fn list_accepted(
+    src: IsdAsn,
+    dst: IsdAsn,
+    book: &[u8],
+    table: &[u16; PLACES],
+    out: &mut [u8],
+) -> ListAnswer
+    requires { ⌜ Ready (now book) (now table) ⌝ }
     ensures { λ r. ⌜ (r, now (out .exit)) ≡ listing sha256 (now (book .entry)) src dst (length (now (out .entry))) ⌝ }
 {
     let room = slots_of(out.len());
-    let table = book::entry_offsets(book);
-    let n = search::search(book, &table, src, dst, out, room);
+    let n = search::search(book, table, src, dst, out, room);
     if room < n {
         output::zero(out, 0);
         return ListAnswer::Refused(Refusal::Full);
@@ -72,10 +77,11 @@ fn list_accepted(src: IsdAsn, dst: IsdAsn, book: &[u8], out: &mut [u8]) -> ListA
 pub fn list(src: IsdAsn, dst: IsdAsn, book: &[u8], out: &mut [u8]) -> ListAnswer
     ensures { λ r. ⌜ (r, now (out .exit)) ≡ listing sha256 (now (book .entry)) src dst (length (now (out .entry))) ⌝ }
 {
-    let v = book::verdict(book);
+    let mut table = [0u16; PLACES];
+    let v = book::open(book, &mut table);
     if let Verdict::Refused(r) = v {
         output::zero(out, 0);
         return ListAnswer::Refused(r);
     }
-    list_accepted(src, dst, book, out)
+    list_accepted(src, dst, book, &table, out)
 }

@@ -23,11 +23,12 @@ use Rattle.spec.proofs.BookLaws.{stored}
 use Rattle.spec.proofs.AnswerLaws.{assembly-refused, assembly-small}
 use Rattle.output.specs.Write.{zeroed}
 use Rattle.output.proofs.Writing.{zeroed-all}
-use Rattle.book.specs.Offsets.{offsetTable}
+use Rattle.book.specs.Offsets.{openTable}
+use Rattle.book.proofs.Tables.{open-accepted}
 use Rattle.graph.proofs.Chain.{the-type}
 use Rattle.graph.specs.declared.Chain.{Chain}
 use Rattle.graph.specs.declared.Chain.the-variants.{Refused, Stranger, One, Two, Three}
-use Rattle.graph.specs.Recorded.{chainEdges, saidBy, recorded, tableOn}
+use Rattle.graph.specs.Recorded.{chainEdges, saidBy, recorded}
 use Rattle.graph.proofs.RecordedLaws.{OfChain, said-refused, said-stranger, said-one, said-two, said-three}
 use Rattle.path.specs.Usable.{Ready}
 use Rattle.path.specs.Whole.{UsableChain}
@@ -62,8 +63,8 @@ chain-usable b src dst chain h =
           record { position = s .position; shortcut = s .edge .shortcut; peer = s .edge .peer; direction = s .edge .direction };
     }
 
-pub table-ready : (b table old : List ℕ) → verdict b ≡ Accepted → table ≡ tableOn (verdict b) (offsetTable b) old → Ready b table
-table-ready b table old ok q = record { ok = ok; table = q ∙ ap (λ v. tableOn v (offsetTable b) old) ok }
+pub table-ready : (b table : List ℕ) → verdict b ≡ Accepted → table ≡ openTable b → Ready b table
+table-ready b table ok q = record { ok = ok; table = q ∙ open-accepted b refl ok }
 
 -- ---- the answers
 

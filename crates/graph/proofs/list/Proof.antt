@@ -1,15 +1,16 @@
--- `list` meets its contract. Assumes nothing.
-use mathlib.Core.Path.{sym, _∙_}
-use borrow.Author.Needs.{needs}
+-- `list` meets its contract.
+-- Assumes nothing.
 use Rattle.graph.proofs.ListLaws.{refused-answer}
+use Rattle.graph.proofs.LookupReads.{opened-ready}
+use borrow.Author.Needs.{needs}
 use Rattle.graph.proofs.list.Statement.{statement}
 use Rattle.graph.proofs.list.Tie as tie
 
 returns : tie.Need-returns
-returns c = refused-answer _ _ _ _ _ _ _ (c .before .before .before .before .before .before .before .verdict .ensures) (c .before .before .before .before .before .v .given .1) (c .before .before .zero .ensures)
+returns c = refused-answer _ _ _ _ _ _ _ (c .before .before .before .before .before .before .before .«open» .ensures .0) (c .before .before .before .before .before .v .given .1) (c .before .before .zero .ensures)
 
 list-accepted-requires : tie.Need-list-accepted-requires
-list-accepted-requires c κs = sym (c .before .before .before .verdict .ensures) ∙ c .before .enum-told .given .1
+list-accepted-requires c κs = opened-ready _ _ (c .before .before .before .before .«open» .ensures .0) (c .before .before .before .before .«open» .ensures .1) (c .before .before .enum-told .given .1)
 
 pub list-spec : {M : Type 1} → statement M
 list-spec =

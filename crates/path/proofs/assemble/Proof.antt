@@ -16,7 +16,7 @@ returns-3 c = stranger-answer _ _ _ _ _ (c .before .before .before .before .befo
 
 build-requires : tie.Need-build-requires
 build-requires c κs = (
-  table-ready _ _ _ (accepted-by _ _ _ _ (c .before .before .before .before .before .chain-of .result) (c .before .before .before .before .before .chain-of .ensures .0) (c .before .before .before .before .match .keys2)) (c .before .before .before .before .before .chain-of .ensures .1),
+  table-ready _ _ (accepted-by _ _ _ _ (c .before .before .before .before .before .chain-of .result) (c .before .before .before .before .before .chain-of .ensures .0) (c .before .before .before .before .match .keys2)) (c .before .before .before .before .before .chain-of .ensures .1),
   (
     chain-usable _ _ _ _ (chain-by _ _ _ _ (c .before .before .before .before .before .chain-of .result) (c .before .before .before .before .before .chain-of .ensures .0) (c .before .before .before .before .match .keys2) (c .before .before .match2 .keys2) .chain),
     c .before .before .before .if1 .left,

@@ -8,8 +8,8 @@ use Rattle.spec.specs.Book.{isLong, tooLong}
 use Rattle.segment.proofs.Positions.{any-here, any-next, any-done}
 use Rattle.book.proofs.Turns.{long-all, is-long, not-long}
 use borrow.Author.Needs.{needs}
-use Rattle.book.proofs.answer.too_long.Statement.{statement}
-use Rattle.book.proofs.answer.too_long.Tie as tie
+use Rattle.book.proofs.sizes.too_long.Statement.{statement}
+use Rattle.book.proofs.sizes.too_long.Tie as tie
 
 abbrev Inv-loop : tie.InvT-loop
 Inv-loop book count k₀ k = (k ≤ count) × (tooLong book ≡ any (isLong book) (range k (count - k)))

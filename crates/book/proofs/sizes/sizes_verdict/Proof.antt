@@ -1,10 +1,10 @@
--- `verdict` meets its contract: at each return, the tests on the way there are the definition's.
+-- `sizes_verdict` meets its contract: at each return, the tests on the way there are the definition's.
 -- Assumes nothing.
 use mathlib.Core.Path.{sym}
-use Rattle.book.proofs.Turns.{oversize, cut-sizes, crowded, cut, surplus, long, wrong-sum, by-bodies}
+use Rattle.book.proofs.Turns.{oversize, cut-sizes, crowded, cut, surplus, long, wrong-sum, right-sum}
 use borrow.Author.Needs.{needs}
-use Rattle.book.proofs.answer.verdict.Statement.{statement}
-use Rattle.book.proofs.answer.verdict.Tie as tie
+use Rattle.book.proofs.sizes.sizes_verdict.Statement.{statement}
+use Rattle.book.proofs.sizes.sizes_verdict.Tie as tie
 
 returns : tie.Need-returns
 returns c = sym (oversize _ (c .if1 .taken))
@@ -39,12 +39,12 @@ returns-7 c =
 
 returns-8 : tie.Need-returns-8
 returns-8 c =
-    let t = c .before .before .before .before .before in
+    let t = c .before .before .before .before in
     let s = t .before .before .before .before .before in
-    sym (by-bodies _ (s .before .before .before .if1 .left) (s .before .before .if2 .left) (s .before .segment-count .ensures .0) (s .if3 .left) (t .before .before .before .before .body-offset .ensures .0) (t .before .before .before .sizes .ensures) (t .before .if4 .left) (t .if5 .left) (c .before .before .before .before .too-long .ensures) (c .before .before .before .if6 .left) (c .before .before .body-offset2 .ensures .0) (c .before .if7 .left) (c .bodies-verdict .ensures))
+    sym (right-sum _ (s .before .before .before .if1 .left) (s .before .before .if2 .left) (s .before .segment-count .ensures .0) (s .if3 .left) (t .before .before .before .before .body-offset .ensures .0) (t .before .before .before .sizes .ensures) (t .before .if4 .left) (t .if5 .left) (c .before .before .before .too-long .ensures) (c .before .before .if6 .left) (c .before .body-offset2 .ensures .0) (c .if7 .left))
 
-pub verdict-spec : {M : Type 1} → statement M
-verdict-spec =
+pub sizes-verdict-spec : {M : Type 1} → statement M
+sizes-verdict-spec =
     tie.close
     (tie.spec
     returns
@@ -62,5 +62,4 @@ verdict-spec =
     returns-6
     (λ c κs. search needs)
     returns-7
-    (λ c κs. search needs)
     returns-8)

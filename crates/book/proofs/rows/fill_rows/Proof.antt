@@ -1,0 +1,76 @@
+-- `fill_rows` meets its contract. The loop's invariant: what is left says what the whole says, the rows before k are stored, and `at` is where the next body starts.
+-- Assumes nothing.
+use mathlib.Core.Path.{_≡_, sym, _∙_}
+use Prim.Native.Nat.{_+_, _*_, _-_, _^_, _≤_, _<_}
+use native.Mathlib.Omega.{arith}
+use Rattle.spec.specs.Book.{segmentCount, bodyOffset, bodiesVerdict}
+use Rattle.segment.proofs.Positions.{body-next}
+use Rattle.book.specs.Offsets.{rowsBelow}
+use Rattle.book.proofs.Tables.{rows-step, rows-all}
+use Rattle.book.proofs.Turns.{body-says, bodies-first, bodies-refused, bodies-next, bodies-done, body-fits, not-accepted}
+use borrow.Author.Needs.{needs}
+use Rattle.book.proofs.rows.fill_rows.Statement.{statement}
+use Rattle.book.proofs.rows.fill_rows.Tie as tie
+
+abbrev Inv-loop : tie.InvT-loop
+Inv-loop book table₀ count at₀ k₀ table at k = (k ≤ count) × (at < 2 ^ 21 + 65536 * k) × (at ≡ bodyOffset book k) × (table ≡ rowsBelow book k) × (bodiesVerdict book 0 (segmentCount book) ≡ bodiesVerdict book k (count - k))
+
+abbrev μ-loop : tie.MeasureT-loop
+μ-loop book table₀ count at₀ k₀ table at k = count - k
+
+loop-holds : tie.Need-loop-holds Inv-loop μ-loop
+unfolding rowsBelow
+loop-holds c = (omega arith, omega arith, c .body-offset .ensures .0, c .before .before .before .pre .1, bodies-first _ _ 0 (c .before .segment-count .ensures .0))
+
+fill-row-requires : tie.Need-fill-row-requires Inv-loop μ-loop
+fill-row-requires c κs = body-fits _ (c .before .before .before .before .before .before .before .before .before .before .pre .0) _ (rw (c .before .before .before .before .before .before .before .before .segment-count .ensures .0) at (c .before .before .before .before .before .loop-test .taken)) (c .before .before .before .before .before .before .loop .inv .2) (c .before .before .before .wide .ensures .0 ∙ c .before .before .before .before .body-length .ensures) (c .before .wide2 .ensures .0 ∙ c .before .before .entry-count .ensures)
+
+returns : tie.Need-returns Inv-loop μ-loop
+returns c =
+    let l = c .before .before .before .before .before .before .before .before .before in
+    let e = c .enum-told .given .1 in
+    let says = body-says _ 0 _ (l .loop .inv .2) (c .before .before .before .before .before .before .wide .ensures .0 ∙ c .before .before .before .before .before .before .before .body-length .ensures) (c .before .before .before .before .wide2 .ensures .0 ∙ c .before .before .before .before .before .entry-count .ensures) (c .before .before .fill-row .ensures .0) in
+    (sym (l .loop .inv .4 ∙ bodies-refused _ _ _ _ (c .before .before .before .before .before .before .before .before .loop-test .taken) (says ∙ e) ∙ sym e), λ q. not-accepted (sym e ∙ q))
+
+loop-again : tie.Need-loop-again Inv-loop μ-loop
+loop-again c =
+    let l = c .before .before .before .before .before .before .before .before .before in
+    let size = c .before .before .before .before .before .before .wide .ensures .0 ∙ c .before .before .before .before .before .before .before .body-length .ensures in
+    let count = c .before .before .before .before .wide2 .ensures .0 ∙ c .before .before .before .before .before .entry-count .ensures in
+    let e = c .enum-told2 .given .1 in
+    let says = body-says _ 0 _ (l .loop .inv .2) size count (c .before .before .fill-row .ensures .0) in (
+      omega arith,
+      omega arith,
+      body-next _ _ (l .loop .inv .2) size,
+      rows-step _ _ (l .loop .inv .2) count (l .loop .inv .3) (c .before .before .fill-row .ensures .1 e),
+      l .loop .inv .4 ∙ bodies-next _ _ _ (c .before .before .before .before .before .before .before .before .loop-test .taken) (says ∙ e),
+    )
+
+returns-2 : tie.Need-returns-2 Inv-loop μ-loop
+returns-2 c =
+    let l = c .before in
+    (sym (l .loop .inv .4 ∙ bodies-done _ _ _ (c .loop-test .left)), λ q. rows-all _ (l .loop .inv .3) (omega (arith, c .before .before .before .segment-count .ensures .0)))
+
+pub fill-rows-spec : {M : Type 1} → statement M
+fill-rows-spec =
+    tie.close
+    (tie.spec
+    Inv-loop
+    μ-loop
+    (λ c κs. search needs)
+    (λ c. search needs)
+    (λ c κs. search needs)
+    loop-holds
+    (λ c κs. search needs)
+    (λ c κs. search needs)
+    (λ c. search needs)
+    (λ c κs. search needs)
+    (λ c κs. search needs)
+    fill-row-requires
+    (λ c. search needs)
+    returns
+    (λ c. search needs)
+    (λ c. search needs)
+    (λ c. search needs)
+    loop-again
+    returns-2)

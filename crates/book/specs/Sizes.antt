@@ -1,0 +1,41 @@
+-- The answer about a book before its bodies, and what the pass over them goes by.
+-- Assumes nothing.
+use Prim.Native.Nat.{ℕ, _≤_, _<_}
+use mathlib.Core.Path.{_≡_}
+use mathlib.Core.Bool.{false, not}
+use mathlib.Core.List.{List}
+use lib.ListN.{length}
+use lib.Dec.{ltb, eqb}
+use Rattle.spec.specs.declared.Refusal.the-variants.{Cut, Surplus, Oversize, Crowded, Long, Misfit}
+use Rattle.spec.specs.declared.Verdict.{Verdict}
+use Rattle.spec.specs.declared.Verdict.the-variants.{Accepted, Refused}
+use Rattle.spec.specs.Limits.{sizesSize, maxBook, maxSegments, maxEntries}
+use Rattle.spec.specs.Basics.{if_then_else_}
+use Rattle.spec.specs.Book.{segmentCount, bodyTotal, lengthsBelow, bodyOffset, wholeLength, tooLong}
+
+-- the tests of `verdict` in their order, up to the bodies
+unfoldable pub sizesVerdict : List ℕ → Verdict
+sizesVerdict b =
+    if ltb maxBook (length b) then Refused Oversize
+    else if ltb (length b) sizesSize then Refused Cut
+    else if ltb maxSegments (segmentCount b) then Refused Crowded
+    else if ltb (length b) (wholeLength b) then Refused Cut
+    else if ltb (wholeLength b) (length b) then Refused Surplus
+    else if tooLong b then Refused Long
+    else if not (eqb (lengthsBelow b (segmentCount b)) (bodyTotal b)) then Refused Misfit
+    else Accepted
+
+-- a book that passes them
+pub record Sized (b : List ℕ) : Type 0 where
+  pub small : length b ≤ maxBook
+  pub crowd : segmentCount b ≤ maxSegments
+  pub short : tooLong b ≡ false
+  pub whole : bodyOffset b (segmentCount b) ≡ length b
+
+-- a body of such a book: its position, its ends and its number of entries
+pub record Body (b : List ℕ) (k start end count : ℕ) : Type 0 where
+  pub position : k < maxSegments
+  pub entries : count ≤ maxEntries
+  pub filled : start ≤ end
+  pub inside : end ≤ length b
+  pub small : length b ≤ maxBook

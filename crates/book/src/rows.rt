@@ -1,0 +1,73 @@
+// The pass over a book's bodies: each entry is tested, and the offset at which it starts is stored.
+ghost use mathlib.Core.Path.{_≡_};
+ghost use Prim.Native.Nat.{_*_};
+ghost use Rattle.spec.specs.declared.Verdict.the-variants.{Accepted};
+ghost use Rattle.spec.specs.Limits.{maxEntries};
+ghost use Rattle.spec.specs.Book.{segmentCount, entriesVerdict, bodiesVerdict};
+ghost use Rattle.book.specs.Offsets.{noOffsets, withRow, offsetTable};
+ghost use Rattle.book.specs.Sizes.{Sized, Body};
+use crate::numbers::wide;
+use spec::AsEntry;
+use spec::Limits;
+use spec::PeerEntry;
+use spec::Refusal;
+use spec::Verdict;
+
+// The places of the table: a row for each position, a place in it for each entry.
+pub const PLACES: usize = Limits::SEGMENTS * Limits::ENTRIES;
+
+// The `count` entries of the body from `start` to `end`: tests them, and stores their offsets in row k.
+fn fill_row(
+    book: &[u8],
+    table: &mut [u16; PLACES],
+    k: u8,
+    start: usize,
+    end: usize,
+    count: usize,
+) -> Verdict
+    requires { ⌜ Body (now book) k start end count ⌝ }
+    ensures { λ r. ⌜ (r ≡ entriesVerdict (now (book .entry)) end start count) × (r ≡ Accepted → now (table .exit) ≡ withRow (now (book .entry)) start (maxEntries * k) count (now (table .entry))) ⌝ }
+{
+    let row = Limits::ENTRIES * (k as usize);
+    let mut at = start;
+    let mut i: usize = 0;
+    while i < count {
+        // So too where the peers of the entry before run past the end.
+        if end < at + AsEntry::SIZE {
+            return Verdict::Refused(Refusal::Misfit);
+        }
+        let peers = book[at + 25] as usize;
+        if Limits::PEERS < peers {
+            return Verdict::Refused(Refusal::Peers);
+        }
+        table[row + i] = at as u16;
+        at += AsEntry::SIZE + PeerEntry::SIZE * peers;
+        i += 1;
+    }
+    if at != end {
+        return Verdict::Refused(Refusal::Misfit);
+    }
+    Verdict::Accepted
+}
+
+// The bodies by position.
+pub(crate) fn fill_rows(book: &[u8], table: &mut [u16; PLACES]) -> Verdict
+    requires { ⌜ Sized (now book) ⌝ }
+    requires { ⌜ now table ≡ noOffsets ⌝ }
+    ensures { λ r. ⌜ (r ≡ bodiesVerdict (now (book .entry)) 0 (segmentCount (now (book .entry)))) × (r ≡ Accepted → now (table .exit) ≡ offsetTable (now (book .entry))) ⌝ }
+{
+    let count = segment::segment_count(book) as u8;
+    let mut at = segment::body_offset(book, 0);
+    let mut k: u8 = 0;
+    while k < count {
+        let end = at + wide(segment::body_length(book, k));
+        let n = wide(segment::entry_count(book, k));
+        let v = fill_row(book, table, k, at, end, n);
+        if let Verdict::Refused(_) = v {
+            return v;
+        }
+        at = end;
+        k += 1;
+    }
+    Verdict::Accepted
+}
