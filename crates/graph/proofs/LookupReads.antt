@@ -16,18 +16,20 @@ use Rattle.spec.specs.declared.Sizes.{Sizes}
 use Rattle.spec.specs.declared.Verdict.{Verdict}
 use Rattle.spec.specs.declared.Verdict.the-variants.{Accepted}
 use Rattle.spec.specs.declared.Edge.{Edge}
-use Rattle.spec.specs.Limits.{maxSegments, maxEntries}
+use Rattle.spec.specs.Limits.{headSize, entrySize, peerSize, maxSegments, maxEntries}
 use Rattle.spec.specs.Basics.{if_then_else_, any, filter, range}
-use Rattle.spec.specs.Octets.{be16}
-use Rattle.spec.specs.Book.{Segment, segmentAt, segmentCount, sizesAt, verdict, entryCountAt, isdAsnAt, peerCount, peerEntryAt, peerOffset}
+use Rattle.spec.specs.Octets.{be16, be32}
+use Rattle.spec.specs.Book.{Segment, segmentAt, segmentCount, sizesAt, headOffset, wholeLength, verdict, entryCountAt, bodyOffset, isdAsnAt, peerCount, peerEntryAt, peerOffset, entryOffset}
 use Rattle.spec.specs.Edges.{sameAs, sameVertex, asOf, leafAs, peerOf, inConstruction, edgeOf}
 use Rattle.spec.proofs.Membership.{not-both}
 use Rattle.spec.proofs.Vertices.{sameAs-eq, sameVertex-eq, eq-sameVertex}
 use Rattle.spec.proofs.OnceLaws.{any-mem, segment-position}
 use Rattle.spec.proofs.BookLaws.{AcceptedBook, accepted, mem-range, entry-count, segment-length}
-use Rattle.book.specs.Offsets.{openTable}
+use Rattle.spec.proofs.BodyLaws.{body-end, entry-place, peer-place}
+use Rattle.octets.proofs.Halves.{halves64}
+use Rattle.book.specs.Offsets.{offsetTable, openTable}
 use Rattle.segment.proofs.Fitting.{position-small}
-use Rattle.book.proofs.Tables.{open-accepted, table-as, table-peers, table-peer}
+use Rattle.book.proofs.Tables.{open-accepted, table-at, table-as, table-peers, table-peer}
 use Rattle.graph.specs.declared.edges.Link.{Link}
 use Rattle.spec.specs.Chains.{leaves}
 use Rattle.graph.specs.Lookup.{hasEnds, between, leavingOf}
@@ -69,6 +71,14 @@ module _ (b t : List ℕ) (r : Ready b t) (k : ℕ) (h : k < segmentCount b) whe
     below : i < entryCountAt b k
     below = omega (arith, count-read b k)
 
+    -- where the table says that the entry starts
+    place : getD t (maxEntries * k + i) 0 ≡ entryOffset b (bodyOffset b k) i
+    place = ap (λ u. getD u (maxEntries * k + i) 0) (r .table) ∙ table-at b book k i h below
+
+    -- its bytes lie within the book
+    pub entry-within : {o : ℕ} → o ≡ getD t (maxEntries * k + i) 0 → o + entrySize ≤ length b
+    entry-within e = omega (arith, place, entry-place b book k h i below .entry, body-end b book k h)
+
     pub as-read : asOf (segmentAt b k) i ≡ isdAsnAt b (getD t (maxEntries * k + i) 0)
     as-read = table-as b book k i h below ∙ ap (λ u. isdAsnAt b (getD u (maxEntries * k + i) 0)) (sym (r .table))
 
@@ -77,6 +87,15 @@ module _ (b t : List ℕ) (r : Ready b t) (k : ℕ) (h : k < segmentCount b) whe
     peers-read = table-peers b book k i h below ∙ ap (λ u. peerCount b (getD u (maxEntries * k + i) 0)) (sym (r .table))
 
     module _ (p : ℕ) (g : p < peerCountOf (segmentAt b k) i) where
+      pub peer-within : {o m : ℕ} → o ≡ getD t (maxEntries * k + i) 0 → m ≡ peerOffset o p → m + peerSize ≤ length b
+      peer-within e f =
+          omega (
+            arith,
+            f ∙ ap (λ z. peerOffset z p) (e ∙ place),
+            peer-place b book k h i p below (omega (arith, peers-read, ap (peerCount b) place)),
+            body-end b book k h,
+          )
+
       pub peer-read : peerOf (segmentAt b k) i p ≡ peerEntryAt b (peerOffset (getD t (maxEntries * k + i) 0) p)
       peer-read =
           table-peer b book k i h below p (omega (arith, peers-read, ap (λ u. peerCount b (getD u (maxEntries * k + i) 0)) (r .table)))
@@ -248,6 +267,26 @@ count-of-entries b k q = q ∙ sym (count-read b k)
 pub count-most : (b : List ℕ) → verdict b ≡ Accepted → (k : ℕ) → k < segmentCount b → entryCount (segmentAt b k) ≤ maxEntries
 count-most b a k h = omega (arith, count-read b k, entry-count b (accepted b a) k h)
 
+-- in an accepted book the count is its low byte, which lies within the book
+module _ (b : List ℕ) (a : verdict b ≡ Accepted) (k : ℕ) (h : k < segmentCount b) where
+  pub count-place : 15 + headSize * k < length b
+  unfolding wholeLength headOffset
+  count-place = let w = accepted b a .whole in omega arith
+
+  pub count-low : getD b (15 + headSize * k) 0 ≡ entryCount (segmentAt b k)
+  unfolding entryCountAt headOffset be16
+  count-low =
+      let e : headOffset k + 6 + 1 ≡ 15 + headSize * k = omega arith in
+      omega (arith, ap (λ n. getD b n 0) e, count-read b k, entry-count b (accepted b a) k h)
+
+-- an AS of two halves
+abbrev as-number : ℕ → IsdAsn
+as-number n = record { 0 = n }
+
+pub as-halves : (b : List ℕ) (at : ℕ) {x y : ℕ} → x ≡ be32 b at → y ≡ be32 b (at + 4) → as-number (x * 4294967296 + y) ≡ isdAsnAt b at
+unfolding isdAsnAt
+as-halves b at p q = ap as-number (halves64 b at p q)
+
 -- ---- edges
 
 -- no AS edge at the leaf or past it
@@ -373,6 +412,32 @@ module _ (seg : Segment) {n : ℕ} (count : n ≡ entryCount seg) (none : n ≡ 
   pub empty-between : (v w : Vertex) → [] ≡ between seg v w
   unfolding between
   empty-between v w = sym (ap (filter (hasEnds v w)) (none-stored seg (sym count ∙ none)) ∙ unfold filter in refl)
+
+-- ---- a look at the leaf: no edge from a vertex to an AS
+
+module _ (seg : Segment) (nc : seg .core ≡ false) {n : ℕ} (count : n ≡ entryCount seg) (v : Vertex) (w : IsdAsn) where
+  past-none : (a : IsdAsn) {i : ℕ} → i ≡ entryWith seg a (n - 1) → ltb i (n - 1) ≡ false → asEdgeAt seg v (AS w) (entryWith seg a (n - 1)) ≡ []
+  past-none a {i} found none = let h : n - 1 ≤ i = ltb-false i (n - 1) none in sym (as-past seg v (AS w) (entryWith seg a (n - 1)) (omega arith))
+
+  module _ {leaf : IsdAsn} (last : leaf ≡ asOf seg (n - 1)) where
+    at-leaf : (a : IsdAsn) {u t : Bool} → u ≡ sameAs leaf a → u ≡ t → sameAs (leafAs seg) a ≡ t
+    at-leaf a p q = ap (λ x. sameAs x a) (sym (leaf-read seg count last)) ∙ sym p ∙ q
+
+    pub join-peering : {l p : IsdAsn} {i j : ℕ} {u : Bool} → v ≡ Peering l i p j → u ≡ sameAs leaf w → u ≡ false → between seg v (AS w) ≡ []
+    join-peering at p q = sym (from-none seg w nc n count (at-leaf w p q) v (λ e. as-not-peering (e ∙ at)))
+
+    module _ {a : IsdAsn} (at : v ≡ AS a) {u : Bool} (test : u ≡ sameAs leaf w) where
+      pub join-to : u ≡ true → {i : ℕ} → i ≡ entryWith seg a (n - 1) → ltb i (n - 1) ≡ false → between seg v (AS w) ≡ []
+      join-to q found none = sym (to-as seg w nc n count (at-leaf w test q) v a at) ∙ past-none a found none
+
+      pub join-from : u ≡ false → {t : Bool} → t ≡ sameAs leaf a → t ≡ true → {i : ℕ} → i ≡ entryWith seg w (n - 1) → ltb i (n - 1) ≡ false
+          → between seg v (AS w) ≡ []
+      join-from q p s found none =
+          sym (from-as seg w nc n count (at-leaf w test q) v (at ∙ ap AS (sym (sameAs-eq _ _ (at-leaf a p s))))) ∙ past-none w found none
+
+      pub join-none : u ≡ false → {t : Bool} → t ≡ sameAs leaf a → t ≡ false → between seg v (AS w) ≡ []
+      join-none q p s =
+          sym (from-none seg w nc n count (at-leaf w test q) v (λ e. not-both (eq-sameAs _ _ (as-eq (e ∙ at))) (at-leaf a p s)))
 
 -- ---- an AS that no entry of a non-core segment has
 

@@ -32,7 +32,7 @@ pub core-at : (b : List ℕ) (k : ℕ) → k < cores b → segmentAt b k .core �
 unfolding segmentAt
 core-at b k h = lt-ltb k (cores b) h
 
-other-at : (b : List ℕ) (k : ℕ) → cores b ≤ k → segmentAt b k .core ≡ false
+pub other-at : (b : List ℕ) (k : ℕ) → cores b ≤ k → segmentAt b k .core ≡ false
 unfolding segmentAt
 other-at b k h = le-ltb k (cores b) h
 
@@ -93,12 +93,15 @@ module _ (b : List ℕ) (dst : IsdAsn) (e : Edge) (k : ℕ) where
   unfolding triple
   triple-found f r g h p q = triples-other f h ∙ ap (map (triple b dst e f)) (found-edge r _ g p q)
 
+  pub triple-empty : (f : Edge) → cores b ≤ k → between (segmentAt b k) (f .dst) (AS dst) ≡ [] → triplesIn b dst e f (segmentAt b k) ≡ []
+  triple-empty f h q = triples-other f h ∙ ap (map (triple b dst e f)) q
+
   pub triple-nothing : (f : Edge) (r : Found) → cores b ≤ k → foundEdges r ≡ between (segmentAt b k) (f .dst) (AS dst) → r ≡ Nothing
       → triplesIn b dst e f (segmentAt b k) ≡ []
-  triple-nothing f r h p q = triples-other f h ∙ ap (map (triple b dst e f)) (found-nothing r _ p q)
+  triple-nothing f r h p q = triple-empty f h (found-nothing r _ p q)
 
   pub triple-none : (f : Edge) → cores b ≤ k → hasAs (segmentAt b k) dst ≡ false → triplesIn b dst e f (segmentAt b k) ≡ []
-  triple-none f h q = triples-other f h ∙ ap (map (triple b dst e f)) (none-arrives (segmentAt b k) (other-at b k h) dst q (f .dst))
+  triple-none f h q = triple-empty f h (none-arrives (segmentAt b k) (other-at b k h) dst q (f .dst))
 
   pairs-other : cores b ≤ k → chainsWith b dst e (segmentAt b k) ≡ map (pair b dst e) (between (segmentAt b k) (e .dst) (AS dst))
   unfolding chainsWith pairsIn
@@ -111,12 +114,15 @@ module _ (b : List ℕ) (dst : IsdAsn) (e : Edge) (k : ℕ) where
   unfolding pair
   pair-found r f h p q = pairs-other h ∙ ap (map (pair b dst e)) (found-edge r _ f p q)
 
+  pub pair-empty : cores b ≤ k → between (segmentAt b k) (e .dst) (AS dst) ≡ [] → chainsWith b dst e (segmentAt b k) ≡ []
+  pair-empty h q = pairs-other h ∙ ap (map (pair b dst e)) q
+
   pub pair-nothing : (r : Found) → cores b ≤ k → foundEdges r ≡ between (segmentAt b k) (e .dst) (AS dst) → r ≡ Nothing
       → chainsWith b dst e (segmentAt b k) ≡ []
-  pair-nothing r h p q = pairs-other h ∙ ap (map (pair b dst e)) (found-nothing r _ p q)
+  pair-nothing r h p q = pair-empty h (found-nothing r _ p q)
 
   pub pair-none : cores b ≤ k → hasAs (segmentAt b k) dst ≡ false → chainsWith b dst e (segmentAt b k) ≡ []
-  pair-none h q = pairs-other h ∙ ap (map (pair b dst e)) (none-arrives (segmentAt b k) (other-at b k h) dst q (e .dst))
+  pair-none h q = pair-empty h (none-arrives (segmentAt b k) (other-at b k h) dst q (e .dst))
 
   across-core : k < cores b → e .core ≡ false → chainsWith b dst e (segmentAt b k) ≡ flatMap (acrossWith b dst e) (leavingOf (e .dst) (segmentAt b k))
   unfolding chainsWith

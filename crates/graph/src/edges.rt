@@ -2,12 +2,14 @@
 // vertices, and what it stores that leaves one.
 ghost use mathlib.Core.Path.{_≡_};
 ghost use mathlib.Core.Bool.{true, false, _&&_};
+ghost use mathlib.Core.List.{[]};
 ghost use Prim.Native.Nat.{_+_, _*_, _-_, _^_, _≤_, _<_};
-ghost use lib.ListN.{getD};
+ghost use lib.ListN.{length, getD};
 ghost use Rattle.spec.specs.declared.Vertex.the-variants.{AS};
 ghost use Rattle.spec.specs.declared.Verdict.the-variants.{Accepted};
-ghost use Rattle.spec.specs.Limits.{maxSegments, maxEntries};
-ghost use Rattle.spec.specs.Book.{segmentAt, segmentCount, verdict, peerCount, peerEntryAt, peerOffset};
+ghost use Rattle.spec.specs.Limits.{maxSegments, maxEntries, entrySize, peerSize};
+ghost use Rattle.spec.specs.Octets.{be16, be32};
+ghost use Rattle.spec.specs.Book.{segmentAt, segmentCount, verdict, isdAsnAt, peerCount, peerEntryAt, peerOffset};
 ghost use Rattle.spec.specs.Edges.{sameAs, sameVertex, asOf, leafAs, inConstruction};
 ghost use Rattle.graph.specs.Lookup.{between, leavingOf, foundEdges};
 ghost use Rattle.graph.specs.Leaving.{entryCount, peerCountOf, linkOf, asUp, peerUp};
@@ -19,9 +21,11 @@ use crate::Found;
 use crate::slots;
 use spec::AsEntry;
 use spec::Edge;
+use spec::Head;
 use spec::IsdAsn;
 use spec::Limits;
 use spec::PeerEntry;
+use spec::Sizes;
 use spec::SolutionEdge;
 use spec::Vertex;
 
@@ -102,6 +106,52 @@ pub(crate) fn same_vertex(v: Vertex, w: Vertex) -> bool
     }
 }
 
+// ---- numbers that lie within the book
+
+fn wide16(x: u8) -> u16
+    ensures { λ r. ⌜ (r ≡ x) × (r < 256) ⌝ }
+{
+    x as u16
+}
+
+fn wide32(x: u8) -> u32
+    ensures { λ r. ⌜ (r ≡ x) × (r < 256) ⌝ }
+{
+    x as u32
+}
+
+fn wide64(x: u32) -> u64
+    ensures { λ r. ⌜ (r ≡ x) × (r < 2 ^ 32) ⌝ }
+{
+    x as u64
+}
+
+fn pair_within(book: &[u8], at: usize) -> u16
+    requires { ⌜ at + 2 ≤ length (now book) ⌝ }
+    ensures { λ r. ⌜ r ≡ be16 (now (book .entry)) at ⌝ }
+{
+    wide16(book[at]) * 256 + wide16(book[at + 1])
+}
+
+// Four bytes. The compiler makes one load of a flat sum.
+fn half_within(book: &[u8], at: usize) -> u32
+    requires { ⌜ at + 4 ≤ length (now book) ⌝ }
+    ensures { λ r. ⌜ r ≡ be32 (now (book .entry)) at ⌝ }
+{
+    wide32(book[at]) * 16777216
+        + wide32(book[at + 1]) * 65536
+        + wide32(book[at + 2]) * 256
+        + wide32(book[at + 3])
+}
+
+// The AS of the entry or peer at an offset.
+fn as_within(book: &[u8], at: usize) -> IsdAsn
+    requires { ⌜ at + 8 ≤ length (now book) ⌝ }
+    ensures { λ r. ⌜ r ≡ isdAsnAt (now (book .entry)) at ⌝ }
+{
+    IsdAsn(wide64(half_within(book, at)) * 4294967296 + wide64(half_within(book, at + 4)))
+}
+
 // ---- entries
 
 // The segment at position k is a core segment.
@@ -117,13 +167,16 @@ pub(crate) fn entry_count(book: &[u8], k: u8) -> usize
     segment::entry_count(book, k) as usize
 }
 
-// The same in an accepted book, where it is small.
+// Where the low byte of the entry count stands, past the heads before its own.
+const COUNT: usize = Sizes::SIZE + 7;
+
+// The same in an accepted book, where it fits its low byte.
 fn count_of(book: &[u8], k: u8) -> u8
     requires { ⌜ verdict (now book) ≡ Accepted ⌝ }
     requires { ⌜ k < segmentCount (now book) ⌝ }
     ensures { λ r. ⌜ (r ≡ entryCount (segmentAt (now (book .entry)) k)) × (r ≤ maxEntries) ⌝ }
 {
-    segment::entry_count(book, k) as u8
+    book[COUNT + Head::SIZE * (k as usize)]
 }
 
 fn wide(x: u16) -> usize
@@ -147,7 +200,7 @@ fn as_at(book: &[u8], table: &[u16; PLACES], k: u8, i: u8) -> IsdAsn
     requires { ⌜ i < entryCount (segmentAt (now book) k) ⌝ }
     ensures { λ r. ⌜ r ≡ asOf (segmentAt (now (book .entry)) k) i ⌝ }
 {
-    segment::isd_asn(book, offset_at(table, k, i))
+    as_within(book, offset_at(table, k, i))
 }
 
 // The AS of a segment's leaf.
@@ -193,10 +246,10 @@ pub(crate) fn has_as(book: &[u8], table: &[u16; PLACES], k: u8, a: IsdAsn) -> bo
 const PEER_COUNT: usize = AsEntry::SIZE - 1;
 
 fn peers_at(book: &[u8], at: usize) -> u8
-    requires { ⌜ at < 2 ^ 16 ⌝ }
+    requires { ⌜ at + entrySize ≤ length (now book) ⌝ }
     ensures { λ r. ⌜ r ≡ peerCount (now (book .entry)) at ⌝ }
 {
-    octets::byte(book, at + PEER_COUNT)
+    book[at + PEER_COUNT]
 }
 
 pub(crate) fn peer_count(book: &[u8], table: &[u16; PLACES], k: u8, i: u8) -> usize
@@ -218,15 +271,16 @@ fn peer_offset(at: usize, p: u8) -> usize
 
 // The peer at an offset is that of a link.
 fn same_peer(book: &[u8], at: usize, link: Link) -> bool
+    requires { ⌜ at + peerSize ≤ length (now book) ⌝ }
     ensures { λ r. ⌜ r ≡ samePeer (peerEntryAt (now (book .entry)) at) link ⌝ }
 {
-    if octets::be16_past(book, at, 13) != link.ingress {
+    if pair_within(book, at + 13) != link.ingress {
         return false;
     }
-    if octets::be16_past(book, at, 8) != link.interface {
+    if pair_within(book, at + 8) != link.interface {
         return false;
     }
-    same_as(segment::isd_asn(book, at), link.peer)
+    same_as(as_within(book, at), link.peer)
 }
 
 // One more than the last peer of entry i that has a link; 0 where none has.
@@ -237,7 +291,7 @@ fn find_peer(book: &[u8], table: &[u16; PLACES], k: u8, i: u8, link: Link) -> u8
     ensures { λ r. ⌜ r ≡ peerLinked (segmentAt (now (book .entry)) k) (endOf link) i ⌝ }
 {
     let at = offset_at(table, k, i);
-    if !same_as(segment::isd_asn(book, at), link.local) {
+    if !same_as(as_within(book, at), link.local) {
         return 0;
     }
     let mut p = peers_at(book, at);
@@ -277,10 +331,10 @@ fn link_at(book: &[u8], table: &[u16; PLACES], k: u8, i: u8, p: u8) -> Link
 {
     let start = offset_at(table, k, i);
     let at = peer_offset(start, p);
-    let local = segment::isd_asn(book, start);
-    let ingress = octets::be16_past(book, at, 13);
-    let peer = segment::isd_asn(book, at);
-    let interface = octets::be16_past(book, at, 8);
+    let local = as_within(book, start);
+    let ingress = pair_within(book, at + 13);
+    let peer = as_within(book, at);
+    let interface = pair_within(book, at + 8);
     Link {
         local: local,
         ingress: ingress,
@@ -471,6 +525,31 @@ pub(crate) fn between(book: &[u8], table: &[u16; PLACES], k: u8, v: Vertex, w: I
         return to_leaf(book, table, k, n, v, w);
     }
     from_leaf(book, table, k, n, leaf, v, w)
+}
+
+// A look before `between`: false where a non-core segment stores no edge from a vertex to an AS. Most store none, and
+// the look makes no answer to copy.
+pub(crate) fn may_join(book: &[u8], table: &[u16; PLACES], k: u8, v: Vertex, w: IsdAsn) -> bool
+    requires { ⌜ Ready (now book) (now table) ⌝ }
+    requires { ⌜ k < segmentCount (now book) ⌝ }
+    requires { ⌜ segmentAt (now book) k .core ≡ false ⌝ }
+    ensures { λ r. ⌜ (r ≡ false → between (segmentAt (now (book .entry)) k) v (AS w) ≡ []) ⌝ }
+{
+    let n = count_of(book, k);
+    if n == 0 {
+        return false;
+    }
+    let leaf = as_at(book, table, k, n - 1);
+    let Vertex::AS(a) = v else {
+        return same_as(leaf, w);
+    };
+    if same_as(leaf, w) {
+        return find_as(book, table, k, a, n - 1) < n - 1;
+    }
+    if same_as(leaf, a) {
+        return find_as(book, table, k, w, n - 1) < n - 1;
+    }
+    false
 }
 
 // ---- from a vertex

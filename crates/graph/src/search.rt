@@ -51,6 +51,9 @@ fn triple_in(
 {
     let from = f.dst;
     let dst = q.dst;
+    if !edges::may_join(book, table, k, from, dst) {
+        return n;
+    }
     let found = edges::between(book, table, k, from, dst);
     match found {
         Found::Edge(g) => slots::push_three(out, q.slots, n, e, f, g),
@@ -181,6 +184,9 @@ fn pair_in(
 {
     let from = e.dst;
     let dst = q.dst;
+    if !edges::may_join(book, table, k, from, dst) {
+        return n;
+    }
     let found = edges::between(book, table, k, from, dst);
     match found {
         Found::Edge(f) => slots::push_two(out, q.slots, n, e, f),

@@ -9,7 +9,7 @@ use Rattle.graph.specs.Leaving.{peerCountOf, isLink}
 use Rattle.graph.specs.Scan.{peerLinked}
 use Rattle.graph.specs.Link.{endOf}
 use Rattle.graph.proofs.LookupScan.{Sinking, sink-start, sink-stop, sink-turn, sink-end}
-use Rattle.graph.proofs.LookupReads.{position-below, count-small, peers-read, here-test, peer-test, link-none}
+use Rattle.graph.proofs.LookupReads.{position-below, count-small, entry-within, peer-within, peers-read, here-test, peer-test, link-none}
 use Rattle.graph.proofs.edges.find_peer.Statement.{statement}
 use Rattle.graph.proofs.edges.find_peer.Tie as tie
 
@@ -24,8 +24,10 @@ offset-at-requires c κs =
     let p = c .before .pre in
     (position-below _ _ (p .0) _ (p .1 .0), omega (arith, count-small _ _ (p .0) _ (p .1 .0)))
 
-isd-asn-requires : tie.Need-isd-asn-requires Inv-loop μ-loop
-isd-asn-requires c κs = search needs
+as-within-requires : tie.Need-as-within-requires Inv-loop μ-loop
+as-within-requires c κs =
+    let p = c .before .before .pre in
+    omega (arith, entry-within _ _ (p .0) _ (p .1 .0) _ (p .1 .1) (c .offset-at .ensures .0))
 
 same-as-requires : tie.Need-same-as-requires Inv-loop μ-loop
 same-as-requires c κs = search needs
@@ -35,10 +37,12 @@ returns c =
     let s = c .before .before .before .before .before in
     let p = s .pre in
     link-none (segmentAt (s .args .book .now) (s .args .k)) (s .args .link) _
-    (here-test _ _ (p .0) _ (p .1 .0) _ (p .1 .1) _ (c .before .before .before .offset-at .ensures .0) (c .before .before .isd-asn .ensures) (c .before .same-as .ensures) (not-true _ (c .if1 .taken)))
+    (here-test _ _ (p .0) _ (p .1 .0) _ (p .1 .1) _ (c .before .before .before .offset-at .ensures .0) (c .before .before .as-within .ensures) (c .before .same-as .ensures) (not-true _ (c .if1 .taken)))
 
 peers-at-requires : tie.Need-peers-at-requires Inv-loop μ-loop
-peers-at-requires c κs = search needs
+peers-at-requires c κs =
+    let p = c .before .before .before .before .before .pre in
+    entry-within _ _ (p .0) _ (p .1 .0) _ (p .1 .1) (c .before .before .before .offset-at .ensures .0)
 
 loop-holds : tie.Need-loop-holds Inv-loop μ-loop
 loop-holds c =
@@ -56,7 +60,10 @@ peer-offset-requires : tie.Need-peer-offset-requires Inv-loop μ-loop
 peer-offset-requires c κs = search needs
 
 same-peer-requires : tie.Need-same-peer-requires Inv-loop μ-loop
-same-peer-requires c κs = search needs
+same-peer-requires c κs =
+    let l = c .before .before in
+    let p = l .before .before .before .before .before .before .before .pre in
+    peer-within _ _ (p .0) _ (p .1 .0) _ (p .1 .1) _ (omega arith) (l .before .before .before .before .before .offset-at .ensures .0) (c .peer-offset .ensures)
 
 returns-2 : tie.Need-returns-2 Inv-loop μ-loop
 unfolding peerLinked
@@ -66,7 +73,7 @@ returns-2 c =
     let p = s .pre in
     sink-stop _ _ _ (l .loop .inv) (omega arith)
     (peer-test _ _ (p .0) _ (p .1 .0) _ (p .1 .1) (s .args .link)
-    (here-test _ _ (p .0) _ (p .1 .0) _ (p .1 .1) _ (l .before .before .before .before .before .offset-at .ensures .0) (l .before .before .before .before .isd-asn .ensures) (l .before .before .before .same-as .ensures) (not-false _ (l .before .before .if1 .left)))
+    (here-test _ _ (p .0) _ (p .1 .0) _ (p .1 .1) _ (l .before .before .before .before .before .offset-at .ensures .0) (l .before .before .before .before .as-within .ensures) (l .before .before .before .same-as .ensures) (not-false _ (l .before .before .if1 .left)))
     _ (omega arith) (l .before .before .before .before .before .offset-at .ensures .0) (c .before .before .peer-offset .ensures) (c .before .same-peer .ensures) (c .if2 .taken))
 
 sub-p : tie.Need-sub-p Inv-loop μ-loop
@@ -82,7 +89,7 @@ loop-again c =
     let p = s .pre in
     sink-turn _ _ _ (l .loop .inv) (omega arith)
     (peer-test _ _ (p .0) _ (p .1 .0) _ (p .1 .1) (s .args .link)
-    (here-test _ _ (p .0) _ (p .1 .0) _ (p .1 .1) _ (l .before .before .before .before .before .offset-at .ensures .0) (l .before .before .before .before .isd-asn .ensures) (l .before .before .before .same-as .ensures) (not-false _ (l .before .before .if1 .left)))
+    (here-test _ _ (p .0) _ (p .1 .0) _ (p .1 .1) _ (l .before .before .before .before .before .offset-at .ensures .0) (l .before .before .before .before .as-within .ensures) (l .before .before .before .same-as .ensures) (not-false _ (l .before .before .if1 .left)))
     _ (omega arith) (l .before .before .before .before .before .offset-at .ensures .0) (c .before .before .peer-offset .ensures) (c .before .same-peer .ensures) (c .if2 .left))
 
 returns-3 : tie.Need-returns-3 Inv-loop μ-loop
@@ -96,7 +103,7 @@ find-peer-spec =
     Inv-loop
     μ-loop
     offset-at-requires
-    isd-asn-requires
+    as-within-requires
     same-as-requires
     returns
     peers-at-requires

@@ -1,8 +1,7 @@
 -- `link_at` meets its contract.
 -- Assumes nothing.
-use Rattle.graph.proofs.LookupReads.{link-read}
 use native.Mathlib.Omega.{arith}
-use Rattle.graph.proofs.LookupReads.{position-below, count-small}
+use Rattle.graph.proofs.LookupReads.{position-below, count-small, entry-within, peer-within, link-read}
 use borrow.Author.Needs.{needs}
 use Rattle.graph.proofs.edges.link_at.Statement.{statement}
 use Rattle.graph.proofs.edges.link_at.Tie as tie
@@ -12,20 +11,41 @@ offset-at-requires c κs =
     let p = c .before .pre in
     (position-below _ _ (p .0) _ (p .1 .0), omega (arith, count-small _ _ (p .0) _ (p .1 .0)))
 
-peer-offset-requires : tie.Need-peer-offset-requires
-peer-offset-requires c κs = search needs
+as-within-requires : tie.Need-as-within-requires
+as-within-requires c κs =
+    let o = c .before in
+    let p = o .before .before .pre in
+    omega (arith, entry-within _ _ (p .0) _ (p .1 .0) _ (p .1 .1 .0) (o .offset-at .ensures .0))
 
-isd-asn-requires : tie.Need-isd-asn-requires
-isd-asn-requires c κs = search needs
+add-pair-within : tie.Need-add-pair-within
+add-pair-within c =
+    let o = c .before .before in
+    let p = o .before .before .pre in
+    omega (arith, peer-within _ _ (p .0) _ (p .1 .0) _ (p .1 .1 .0) _ (p .1 .1 .1) (o .offset-at .ensures .0) (c .before .peer-offset .ensures))
 
-be16-past-requires : tie.Need-be16-past-requires
-be16-past-requires c κs = search needs
+pair-within-requires : tie.Need-pair-within-requires
+pair-within-requires c κs =
+    let o = c .before .before in
+    let p = o .before .before .pre in
+    omega (arith, peer-within _ _ (p .0) _ (p .1 .0) _ (p .1 .1 .0) _ (p .1 .1 .1) (o .offset-at .ensures .0) (c .before .peer-offset .ensures))
 
-isd-asn-requires-2 : tie.Need-isd-asn-requires-2
-isd-asn-requires-2 c κs = search needs
+as-within-requires-2 : tie.Need-as-within-requires-2
+as-within-requires-2 c κs =
+    let o = c .before .before .before in
+    let p = o .before .before .pre in
+    omega (arith, peer-within _ _ (p .0) _ (p .1 .0) _ (p .1 .1 .0) _ (p .1 .1 .1) (o .offset-at .ensures .0) (c .before .before .peer-offset .ensures))
 
-be16-past-requires-2 : tie.Need-be16-past-requires-2
-be16-past-requires-2 c κs = search needs
+add-pair-within-2 : tie.Need-add-pair-within-2
+add-pair-within-2 c =
+    let o = c .before .before .before .before in
+    let p = o .before .before .pre in
+    omega (arith, peer-within _ _ (p .0) _ (p .1 .0) _ (p .1 .1 .0) _ (p .1 .1 .1) (o .offset-at .ensures .0) (c .before .before .before .peer-offset .ensures))
+
+pair-within-requires-2 : tie.Need-pair-within-requires-2
+pair-within-requires-2 c κs =
+    let o = c .before .before .before .before in
+    let p = o .before .before .pre in
+    omega (arith, peer-within _ _ (p .0) _ (p .1 .0) _ (p .1 .1 .0) _ (p .1 .1 .1) (o .offset-at .ensures .0) (c .before .before .before .peer-offset .ensures))
 
 returns : tie.Need-returns
 returns c =
@@ -33,16 +53,18 @@ returns c =
     let p = s .pre in
     link-read _ _ _ (p .0) (p .1 .0) _ (p .1 .1 .0) _ (p .1 .1 .1)
     (c .before .before .before .before .before .offset-at .ensures .0) (c .before .before .before .before .peer-offset .ensures)
-    (c .before .before .before .isd-asn .ensures) (c .before .before .be16-past .ensures) (c .before .isd-asn2 .ensures) (c .be16-past2 .ensures)
+    (c .before .before .before .as-within .ensures) (c .before .before .pair-within .ensures) (c .before .as-within2 .ensures) (c .pair-within2 .ensures)
 
 pub link-at-spec : {M : Type 1} → statement M
 link-at-spec =
     tie.close
     (tie.spec
     offset-at-requires
-    peer-offset-requires
-    isd-asn-requires
-    be16-past-requires
-    isd-asn-requires-2
-    be16-past-requires-2
+    (λ c κs. search needs)
+    as-within-requires
+    add-pair-within
+    pair-within-requires
+    as-within-requires-2
+    add-pair-within-2
+    pair-within-requires-2
     returns)

@@ -3,7 +3,7 @@
 use native.Mathlib.Omega.{arith}
 use mathlib.Core.Path.{sym, ap, _∙_}
 use Rattle.spec.specs.Book.{peerCount}
-use Rattle.graph.proofs.LookupReads.{position-below, count-small, peers-read}
+use Rattle.graph.proofs.LookupReads.{position-below, count-small, entry-within, peers-read}
 use borrow.Author.Needs.{needs}
 use Rattle.graph.proofs.edges.peer_count.Statement.{statement}
 use Rattle.graph.proofs.edges.peer_count.Tie as tie
@@ -14,7 +14,9 @@ offset-at-requires c κs =
     (position-below _ _ (p .0) _ (p .1 .0), omega (arith, count-small _ _ (p .0) _ (p .1 .0)))
 
 peers-at-requires : tie.Need-peers-at-requires
-peers-at-requires c κs = search needs
+peers-at-requires c κs =
+    let p = c .before .before .pre in
+    entry-within _ _ (p .0) _ (p .1 .0) _ (p .1 .1) (c .offset-at .ensures .0)
 
 cast-result : tie.Need-cast-result
 cast-result c = search needs

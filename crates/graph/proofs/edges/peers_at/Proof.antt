@@ -1,19 +1,14 @@
 -- `peers_at` meets its contract.
 -- Assumes nothing.
+use mathlib.Core.Path.{refl}
 use Rattle.spec.specs.Book.{peerCount}
 use borrow.Author.Needs.{needs}
 use Rattle.graph.proofs.edges.peers_at.Statement.{statement}
 use Rattle.graph.proofs.edges.peers_at.Tie as tie
 
-add-byte : tie.Need-add-byte
-add-byte c = search needs
-
-byte-requires : tie.Need-byte-requires
-byte-requires c κs = search needs
-
 returns : tie.Need-returns
 unfolding peerCount
-returns c = c .byte .ensures
+returns c = refl
 
 pub peers-at-spec : {M : Type 1} → statement M
-peers-at-spec = tie.close (tie.spec add-byte byte-requires returns)
+peers-at-spec = tie.close (tie.spec (λ c. search needs) (λ c. search needs) returns)
