@@ -69,11 +69,11 @@ scale: build/driver
 fuzz:
 	tests/fuzz $(SEED) $(SECONDS)
 
-# The driver is linked anew each time, since LIB may name another archive.
+# The driver is linked anew each time, since LIB may name another archive; at once, since a test beside may be running it.
 build/driver: $(DRIVER:%=build/plain/%.o) $(LIB) FORCE
-	$(CC) $(filter %.o,$^) $(LIB) -lpthread -o $@
+	$(CC) $(filter %.o,$^) $(LIB) -lpthread -o $@.$$$$ && mv $@.$$$$ $@
 build/driver-sanitized: $(DRIVER:%=build/sanitized/%.o) $(LIB) FORCE
-	$(CC) $(SANITIZE) $(filter %.o,$^) $(LIB) -lpthread -o $@
+	$(CC) $(SANITIZE) $(filter %.o,$^) $(LIB) -lpthread -o $@.$$$$ && mv $@.$$$$ $@
 build/plain/%.o: tests/driver/%.c $(wildcard tests/driver/*.h) include/combinator.h
 	@mkdir -p $(@D)
 	$(CC) $(CFLAGS) $(STRICT) -c $< -o $@

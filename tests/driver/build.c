@@ -152,3 +152,39 @@ size_t build_worst(uint8_t *out, unsigned half, unsigned entries, unsigned peers
     }
     return build_book(&b, out);
 }
+
+size_t build_links(uint8_t *out, unsigned half)
+{
+    uint64_t x = AS_DESTINATION + 0x100, y = AS_DESTINATION + 0x200;
+    unsigned i, j, p, n = 0;
+    build_start(&b);
+    for (i = 0; i < 2 * half; i++) {
+        uint64_t leaf = i < half ? AS_SOURCE : AS_DESTINATION, local = i < half ? x : y, far = i < half ? y : x;
+        build_segment(&b, 0, 1000000, i);
+        for (j = 0; j < 16; j++) {
+            build_entry(&b, j == 15 ? leaf : local, 1, 1, 0x010203040506 + 16 * i + j);
+            for (p = 0; p < 4; p++, n++) {
+                if (i < half)
+                    build_peer(&b, far, 7, 1 + n, 1, 0x0a0b0c0d0e0f);
+                else
+                    build_peer(&b, far, 1 + n, 7, 1, 0x0a0b0c0d0e0f);
+            }
+        }
+    }
+    return build_book(&b, out);
+}
+
+size_t build_alike(uint8_t *out, unsigned segments)
+{
+    unsigned i, j;
+    build_start(&b);
+    for (i = 0; i < segments; i++) {
+        build_segment(&b, 0, 1000000, 7);
+        for (j = 0; j < 16; j++) {
+            build_entry(&b, AS_DESTINATION + 0x1000 + j, 1, 1, j == 15 ? i : 0);
+            if (j < 15)
+                build_peer(&b, AS_DESTINATION + 0x2000, 1, 1, 1, 0);
+        }
+    }
+    return build_book(&b, out);
+}

@@ -44,4 +44,11 @@ size_t build_few(uint8_t *out, unsigned segments, unsigned entries, unsigned pee
  * a book (20,224 with half 16). */
 size_t build_worst(uint8_t *out, unsigned half, unsigned entries, unsigned peers);
 
+/* `half` segments to either end, of 16 entries with 4 peers, between two ASes, where no link has its other side: every
+ * peer of the one half is held against every peer of the other, and there is no solution. */
+size_t build_links(uint8_t *out, unsigned half);
+
+/* Segments of one timestamp and id whose bodies differ in the last MAC alone: every body is held against every other. */
+size_t build_alike(uint8_t *out, unsigned segments);
+
 #endif

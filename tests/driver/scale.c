@@ -66,5 +66,9 @@ int scale_mode(int args, char **arg)
     /* Every AS and every link shared. */
     for (n = 1; n <= 16; n++)
         line("shared", n, build_worst(book, n, 16, 4));
+    for (n = 1; n <= 16; n++)
+        line("links", n, build_links(book, n));
+    for (n = 1; n <= 64; n *= 2)
+        line("alike", n, build_alike(book, n));
     return 0;
 }
