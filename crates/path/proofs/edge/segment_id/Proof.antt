@@ -19,7 +19,7 @@ entry-count-requires : tie.Need-entry-count-requires Inv-loop μ-loop
 entry-count-requires c κs = (c .before .pre .0 .ok, c .before .pre .1)
 
 loop-holds : tie.Need-loop-holds Inv-loop μ-loop
-loop-holds c = (id-none _ _ _ (c .head .ensures), omega arith)
+loop-holds c = (id-none _ _ _ (c .id .ensures), omega arith)
 
 offset-requires : tie.Need-offset-requires Inv-loop μ-loop
 offset-requires c κs =
