@@ -38,7 +38,7 @@ use Rattle.path.proofs.Showing.{least-append, least-one}
 
 -- ---- lists
 
-pub range-more : {A : Type 0} (f : ℕ → A) (j : ℕ) → map f (range 0 (j + 1)) ≡ map f (range 0 j) ++ (f j ∷ [])
+range-more : {A : Type 0} (f : ℕ → A) (j : ℕ) → map f (range 0 (j + 1)) ≡ map f (range 0 j) ++ (f j ∷ [])
 range-more f j =
     ap (λ n. map f (range 0 n)) (add-one j) ∙ ap (map f) (range-suc 0 j) ∙ map-append f (range 0 j) ((0 + j) ∷ [])
     ∙ ap (λ i. map f (range 0 j) ++ (f i ∷ [])) (zero-add j)
