@@ -15,6 +15,7 @@ ghost use Rattle.path.specs.declared.Part.the-variants.{Hops, Ases, Ids}
 ghost use Rattle.path.specs.Parts.{linkMtus, ingressShown, shownAs, asIf, idIf, interfacesHere, entryBytes};
 use crate::Part;
 use crate::places;
+use crate::within;
 use spec::Edge;
 use spec::IsdAsn;
 
@@ -37,7 +38,7 @@ pub(crate) fn units_at(book: &[u8], e: Edge, m: usize, at: usize) -> u8
     if places::is_peer_hop(e, m) {
         return octets::byte_past(book, places::link_offset(e, at), 12);
     }
-    octets::byte_past(book, at, 18)
+    book[at + 18]
 }
 
 fn ingress_at(book: &[u8], e: Edge, m: usize, at: usize) -> u16
@@ -48,7 +49,7 @@ fn ingress_at(book: &[u8], e: Edge, m: usize, at: usize) -> u16
     if places::is_peer_hop(e, m) {
         return octets::be16_past(book, places::link_offset(e, at), 13);
     }
-    octets::be16_past(book, at, 14)
+    within::read16(book, at + 14)
 }
 
 fn egress_at(book: &[u8], e: Edge, m: usize, at: usize) -> u16
@@ -59,7 +60,7 @@ fn egress_at(book: &[u8], e: Edge, m: usize, at: usize) -> u16
     if places::is_peer_hop(e, m) {
         return octets::be16_past(book, places::link_offset(e, at), 15);
     }
-    octets::be16_past(book, at, 16)
+    within::read16(book, at + 16)
 }
 
 // An entry's own hop: in the book its units stand after the interfaces.
@@ -69,9 +70,10 @@ fn put_own_hop(book: &[u8], at: usize, out: &mut [u8], to: usize)
     requires { ⌜ to < 2 ^ 40 ⌝ }
     ensures { λ _. ⌜ now (out .exit) ≡ written (now (out .entry)) to (hopOctets (asEntryAt (now (book .entry)) at .hop)) ⌝ }
 {
-    output::put_byte(out, to, octets::byte_past(book, at, 18));
-    output::copy(book, at + 14, 4, out, to + 1);
-    output::copy(book, at + 19, 6, out, to + 5);
+    output::put_byte(out, to, book[at + 18]);
+    output::put32(out, to + 1, within::read32(book, at + 14));
+    output::put32(out, to + 5, within::read32(book, at + 19));
+    output::put16(out, to + 9, within::read16(book, at + 23));
 }
 
 // A peer's hop stands in the book as in a path.
@@ -214,7 +216,7 @@ fn link_mtu(book: &[u8], e: Edge, m: usize, at: usize, x: u16) -> u16
     if places::is_left(e, m) {
         return x;
     }
-    let ingress = octets::be16_past(book, at, 12);
+    let ingress = within::read16(book, at + 12);
     if ingress == 0 {
         return x;
     }
@@ -228,5 +230,5 @@ pub(crate) fn mtu_at(book: &[u8], e: Edge, m: usize, at: usize, x: u16) -> u16
     ensures { λ r. ⌜ r ≡ least x (mtusAt (segmentOf (now (book .entry)) e) e m) ⌝ }
 {
     let y = link_mtu(book, e, m, at, x);
-    less(y, (octets::be32_past(book, at, 8) % 65536) as u16)
+    less(y, (within::read32(book, at + 8) % 65536) as u16)
 }

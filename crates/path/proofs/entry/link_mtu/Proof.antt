@@ -23,11 +23,11 @@ returns-2 c = link-left _ _ _ _ (sym (c .before .before .before .is-peer-hop .en
 returns-3 : tie.Need-returns-3
 returns-3 c =
     link-unknown _ _ _ _ (sym (c .before .before .before .before .before .is-peer-hop .ensures) ∙ c .before .before .before .before .if1 .left)
-    (sym (ingress-mtu-read _ _ _ _ (c .before .before .before .before .before .before .before .pre .0)) ∙ sym (c .before .be16-past2 .ensures) ∙ c .if3 .taken)
+    (sym (ingress-mtu-read _ _ _ _ (c .before .before .before .before .before .before .before .pre .0)) ∙ sym (c .before .read16 .ensures) ∙ c .if3 .taken)
 
 returns-4 : tie.Need-returns-4
 returns-4 c =
-    let e = c .before .before .be16-past2 .ensures ∙ ingress-mtu-read _ _ _ _ (c .before .before .before .before .before .before .before .before .pre .0) in
+    let e = c .before .before .read16 .ensures ∙ ingress-mtu-read _ _ _ _ (c .before .before .before .before .before .before .before .before .pre .0) in
     rw (c .less2 .ensures, e)
     (link-known _ _ _ _ (sym (c .before .before .before .before .before .before .is-peer-hop .ensures) ∙ c .before .before .before .before .before .if1 .left) (sym (c .before .before .before .before .is-left .ensures) ∙ c .before .before .before .if2 .left) (λ z. c .before .if3 .left (e ∙ z)))
 
@@ -42,6 +42,7 @@ link-mtu-spec =
     returns
     (λ c κs. search needs)
     returns-2
+    (λ c. search needs)
     (λ c κs. search needs)
     returns-3
     (λ c κs. search needs)

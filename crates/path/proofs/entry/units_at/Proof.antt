@@ -16,7 +16,7 @@ returns c =
     (link-units _ _ _ _ (c .before .before .before .before .before .pre .0) (sym (c .before .before .before .is-peer-hop .ensures) ∙ c .before .before .if1 .taken))
 
 returns-2 : tie.Need-returns-2
-returns-2 c = c .byte-past2 .ensures ∙ own-units _ _ _ _ (c .before .before .before .before .pre .0) (sym (c .before .before .is-peer-hop .ensures) ∙ c .before .if1 .left)
+returns-2 c = own-units _ _ _ _ (c .before .before .before .before .pre .0) (sym (c .before .before .is-peer-hop .ensures) ∙ c .before .if1 .left)
 
 pub units-at-spec : {M : Type 1} → statement M
 units-at-spec =
@@ -26,5 +26,6 @@ units-at-spec =
     link-offset-requires
     (λ c κs. search needs)
     returns
-    (λ c κs. search needs)
+    (λ c. search needs)
+    (λ c. search needs)
     returns-2)
