@@ -1,19 +1,22 @@
 // Whether some AS stands more than twice among the numbers of a record: whether two after some number equal it.
 ghost use mathlib.Core.Path.{_≡_};
 ghost use Prim.Native.Nat.{_+_, _-_, _*_, _^_, _≤_, _<_};
+ghost use lib.ListN.{length};
 ghost use lib.Dec.{ltb};
 ghost use Rattle.spec.specs.Octets.{be64};
 ghost use Rattle.path.specs.Whole.{numbersIn, timesIn, someFrequent, Run};
+use crate::within;
 
 // x is among the `count` numbers from `at` on.
 fn is_among(out: &[u8], at: usize, count: usize, x: u64) -> bool
+    requires { ⌜ at + 8 * count ≤ length (now out) ⌝ }
     requires { ⌜ at + 8 * count < 2 ^ 32 ⌝ }
     ensures { λ r. ⌜ r ≡ ltb 0 (timesIn x (numbersIn (now (out .entry)) at count)) ⌝ }
 {
     let mut next = at;
     let mut left = count;
     while left > 0 {
-        if octets::be64(out, next) == x {
+        if within::read64(out, next) == x {
             return true;
         }
         next += 8;
@@ -24,13 +27,14 @@ fn is_among(out: &[u8], at: usize, count: usize, x: u64) -> bool
 
 // x stands twice among them.
 fn is_repeated(out: &[u8], at: usize, count: usize, x: u64) -> bool
+    requires { ⌜ at + 8 * count ≤ length (now out) ⌝ }
     requires { ⌜ at + 8 * count < 2 ^ 32 ⌝ }
     ensures { λ r. ⌜ r ≡ ltb 1 (timesIn x (numbersIn (now (out .entry)) at count)) ⌝ }
 {
     let mut next = at;
     let mut left = count;
     while left > 0 {
-        if octets::be64(out, next) == x {
+        if within::read64(out, next) == x {
             return is_among(out, next + 8, left - 1, x);
         }
         next += 8;
@@ -41,6 +45,7 @@ fn is_repeated(out: &[u8], at: usize, count: usize, x: u64) -> bool
 
 // How many of the first two numbers are x, of which the first is.
 fn run_of(out: &[u8], at: usize, count: usize, x: u64) -> usize
+    requires { ⌜ at + 8 * count ≤ length (now out) ⌝ }
     requires { ⌜ at + 8 * count < 2 ^ 32 ⌝ }
     requires { ⌜ 0 < count ⌝ }
     requires { ⌜ x ≡ be64 (now out) at ⌝ }
@@ -49,7 +54,7 @@ fn run_of(out: &[u8], at: usize, count: usize, x: u64) -> usize
     if count < 2 {
         return 1;
     }
-    if octets::be64(out, at + 8) == x {
+    if within::read64(out, at + 8) == x {
         return 2;
     }
     1
@@ -57,6 +62,7 @@ fn run_of(out: &[u8], at: usize, count: usize, x: u64) -> usize
 
 // With `run` more, x stands more than twice.
 fn is_third(out: &[u8], at: usize, count: usize, x: u64, run: usize) -> bool
+    requires { ⌜ at + 8 * count ≤ length (now out) ⌝ }
     requires { ⌜ at + 8 * count < 2 ^ 32 ⌝ }
     requires { ⌜ (0 < run) × (run ≤ 2) ⌝ }
     ensures { λ r. ⌜ r ≡ ltb (2 - run) (timesIn x (numbersIn (now (out .entry)) at count)) ⌝ }
@@ -69,13 +75,14 @@ fn is_third(out: &[u8], at: usize, count: usize, x: u64, run: usize) -> bool
 
 // Some number stands more than twice among them. Where two in a row are the same, the second needs no search.
 pub(crate) fn is_frequent(out: &[u8], at: usize, count: usize) -> bool
+    requires { ⌜ at + 8 * count ≤ length (now out) ⌝ }
     requires { ⌜ at + 8 * count < 2 ^ 32 ⌝ }
     ensures { λ r. ⌜ r ≡ someFrequent (numbersIn (now (out .entry)) at count) (numbersIn (now (out .entry)) at count) ⌝ }
 {
     let mut next = at;
     let mut left = count;
     while left > 0 {
-        let x = octets::be64(out, next);
+        let x = within::read64(out, next);
         let run = run_of(out, next, left, x);
         next += 8 * run;
         left -= run;

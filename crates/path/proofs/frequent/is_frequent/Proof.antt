@@ -19,7 +19,7 @@ loop-holds : tie.Need-loop-holds Inv-loop μ-loop
 loop-holds c = (frequent-is _, refl)
 
 run-of-requires : tie.Need-run-of-requires Inv-loop μ-loop
-run-of-requires c κs = (omega arith, (c .before .loop-test .taken, c .be64 .ensures))
+run-of-requires c κs = (omega arith, (omega arith, (c .before .loop-test .taken, c .read64 .ensures)))
 
 returns : tie.Need-returns Inv-loop μ-loop
 returns c = sym (c .before .before .before .before .before .loop .inv .0 ∙ repeated-found (c .before .before .run-of .ensures) _ (c .before .is-third .ensures) (c .if1 .taken))

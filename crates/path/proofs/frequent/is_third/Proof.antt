@@ -6,7 +6,7 @@ use Rattle.path.proofs.frequent.is_third.Statement.{statement}
 use Rattle.path.proofs.frequent.is_third.Tie as tie
 
 returns : tie.Need-returns
-returns c = third-one _ _ _ (c .before .before .before .pre .1 .0) (c .before .if1 .taken) (c .is-repeated .ensures)
+returns c = third-one _ _ _ (c .before .before .before .pre .1 .1 .0) (c .before .if1 .taken) (c .is-repeated .ensures)
 
 returns-2 : tie.Need-returns-2
 returns-2 c = third-two _ _ _ (c .before .if1 .left) (c .is-among .ensures)
