@@ -4,7 +4,7 @@ ghost use mathlib.Core.List.{_++_};
 ghost use Prim.Native.Nat.{_+_, _^_, _≤_, _<_, min};
 ghost use lib.ListN.{length};
 ghost use Rattle.spec.specs.Limits.{entrySize};
-ghost use Rattle.spec.specs.Book.{asEntryAt};
+ghost use Rattle.spec.specs.Book.{isdAsnAt, asEntryAt};
 ghost use Rattle.spec.specs.Edges.{asOf};
 ghost use Rattle.output.specs.Write.{written};
 ghost use Rattle.spec.specs.Assembly.{least, mtusAt, hopOf, segmentOf};
@@ -36,7 +36,8 @@ pub(crate) fn units_at(book: &[u8], e: Edge, m: usize, at: usize) -> u8
     ensures { λ r. ⌜ r ≡ hopOf (segmentOf (now (book .entry)) e) e m .units ⌝ }
 {
     if places::is_peer_hop(e, m) {
-        return octets::byte_past(book, places::link_offset(e, at), 12);
+        let link = places::link_offset(e, at);
+        return book[link + 12];
     }
     book[at + 18]
 }
@@ -47,7 +48,7 @@ fn ingress_at(book: &[u8], e: Edge, m: usize, at: usize) -> u16
     ensures { λ r. ⌜ r ≡ hopOf (segmentOf (now (book .entry)) e) e m .ingress ⌝ }
 {
     if places::is_peer_hop(e, m) {
-        return octets::be16_past(book, places::link_offset(e, at), 13);
+        return within::read16(book, places::link_offset(e, at) + 13);
     }
     within::read16(book, at + 14)
 }
@@ -58,7 +59,7 @@ fn egress_at(book: &[u8], e: Edge, m: usize, at: usize) -> u16
     ensures { λ r. ⌜ r ≡ hopOf (segmentOf (now (book .entry)) e) e m .egress ⌝ }
 {
     if places::is_peer_hop(e, m) {
-        return octets::be16_past(book, places::link_offset(e, at), 15);
+        return within::read16(book, places::link_offset(e, at) + 15);
     }
     within::read16(book, at + 16)
 }
@@ -147,6 +148,13 @@ fn put_id(out: &mut [u8], to: usize, id: u16) -> usize
     to + 2
 }
 
+fn local_at(book: &[u8], at: usize) -> IsdAsn
+    requires { ⌜ at + entrySize ≤ length (now book) ⌝ }
+    ensures { λ r. ⌜ r ≡ isdAsnAt (now (book .entry)) at ⌝ }
+{
+    IsdAsn(within::read64(book, at))
+}
+
 fn put_ases(book: &[u8], e: Edge, m: usize, at: usize, out: &mut [u8], to: usize) -> usize
     requires { ⌜ Here (now book) e m at ⌝ }
     requires { ⌜ at < 2 ^ 16 ⌝ }
@@ -154,7 +162,7 @@ fn put_ases(book: &[u8], e: Edge, m: usize, at: usize, out: &mut [u8], to: usize
     ensures { λ r. ⌜ Wrote (now (out .entry)) to (entryBytes (now (book .entry)) e Ases m) (now (out .exit)) r × (r ≤ to + 16) ⌝ }
 {
     let shown = shown(book, e, m, at);
-    let local = segment::isd_asn(book, at);
+    let local = local_at(book, at);
     let next = put_as(out, to, local, shown.first);
     put_as(out, next, local, shown.second)
 }
@@ -211,7 +219,7 @@ fn link_mtu(book: &[u8], e: Edge, m: usize, at: usize, x: u16) -> u16
     ensures { λ r. ⌜ r ≡ least x (linkMtus (segmentOf (now (book .entry)) e) e m) ⌝ }
 {
     if places::is_peer_hop(e, m) {
-        return less(x, octets::be16_past(book, places::link_offset(e, at), 10));
+        return less(x, within::read16(book, places::link_offset(e, at) + 10));
     }
     if places::is_left(e, m) {
         return x;
