@@ -231,6 +231,9 @@ module _ (b : List ℕ) (bytes : Bytes b) (accepted : AcceptedBook b) (chain : C
   pub interfaces-count : ((front .ids - front .ases) / 8 ≡ length (p .interfaces)) × (length (p .interfaces) ≤ maxEdges * maxEntries * 2)
   interfaces-count = let s = sizes in (omega (arith, f .ids, s .ases), s .few-interfaces)
 
+  pub ases-fit : front .ases + 8 * ((front .ids - front .ases) / 8) ≤ length d
+  ases-fit = let s = sizes in omega (arith, f .hops, f .ases, f .ids, s .infos, s .hops, s .ases, s .few-infos, s .few-hops, s .few-interfaces)
+
   ases-stand : d ≡ (take pathHeadSize (f .before) ++ (flatMap (infoBytes b) c ++ flatMap (edgeBytes b Hops) c))
       ++ (flatMap asOctets (map localOf (p .interfaces)) ++ drop (pathHeadSize + length (frontBytes b c)) (f .before))
   ases-stand =

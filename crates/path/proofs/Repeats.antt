@@ -1,31 +1,22 @@
 -- Numbers that stand more than twice, and Loop.
 -- Assumes nothing.
-use Prim.Native.Nat.{ℕ, suc, _+_, _*_, _≤_, _<_}
-use native.Mathlib.Nat.{add-zero}
+use Prim.Native.Nat.{ℕ, suc, _+_, _-_, _*_, _≤_, _<_}
 use native.Mathlib.Omega.{arith}
-use mathlib.Core.Path.{_≡_, refl, sym, ap, ap₂, _∙_}
+use mathlib.Core.Path.{_≡_, refl, sym, ap, ap₂, _∙_, subst}
 use mathlib.Core.Bool.{Bool, true, false, _||_}
-use mathlib.Core.List.{List, [], _∷_, _++_, map, List·Memᴰ as Mem}
+use mathlib.Core.List.{List, [], _∷_, map}
 use lib.ListN.{length}
 use lib.Dec.{eqb, ltb}
-use borrow.Author.Tests.{eq-eqb, ne-eqb, lt-ltb, le-ltb}
+use borrow.Author.Tests.{eqb-true, eq-eqb, ne-eqb, ltb-true, ltb-false, lt-ltb, le-ltb}
 use Rattle.spec.specs.declared.IsdAsn.{IsdAsn}
 use Rattle.spec.specs.declared.PathInterface.{PathInterface}
 use Rattle.spec.specs.Basics.{if_then_else_, any, filter, range}
 use Rattle.spec.specs.Octets.{be64}
 use Rattle.spec.specs.Edges.{sameAs}
 use Rattle.spec.specs.Assembly.{isOf, timesOf, isCrowded, isLoop}
-use Rattle.spec.proofs.Membership.{mem-map}
-use Rattle.spec.proofs.OnceLaws.{any-mem}
-use Rattle.spec.proofs.BookLaws.{mem-range}
-use Rattle.path.specs.Whole.{numberAt, numbersIn, isNumber, timesIn, isFrequent, someFrequent}
-use Rattle.path.proofs.Walking.{range-more}
-
-pub counted-same : (n x y : ℕ) → y ≡ x → n + 1 ≡ n + (if eqb y x then 1 else 0)
-counted-same n x y q = ap (λ t. n + (if t then 1 else 0)) (sym (eq-eqb y x q))
-
-pub counted-other : (n x y : ℕ) → (y ≡ x → ⊥) → n ≡ n + (if eqb y x then 1 else 0)
-counted-other n x y f = sym (ap (λ t. n + (if t then 1 else 0)) (ne-eqb y x f) ∙ add-zero n)
+use Rattle.spec.proofs.Membership.{not-both}
+use Rattle.spec.proofs.Lists.{map-same, map-range-first}
+use Rattle.path.specs.Whole.{numberAt, numbersIn, isNumber, timesIn, isFrequent, someFrequent, someRepeated, Run}
 
 times-cons : (x n : ℕ) (ns : List ℕ) → timesIn x (n ∷ ns) ≡ (if eqb n x then 1 else 0) + timesIn x ns
 unfolding timesIn filter isNumber
@@ -42,61 +33,167 @@ times-nil : (x : ℕ) → timesIn x [] ≡ 0
 unfolding timesIn filter
 times-nil x = refl
 
-times-snoc : (x y : ℕ) (ns : List ℕ) → timesIn x (ns ++ (y ∷ [])) ≡ timesIn x ns + (if eqb y x then 1 else 0)
-times-snoc x y [] = omega (arith, times-cons x y [], times-nil x)
-times-snoc x y (n ∷ ns) = omega (arith, times-cons x n (ns ++ (y ∷ [])), times-cons x n ns, times-snoc x y ns)
+-- one more of x, or another
+times-same : (x y : ℕ) (ns : List ℕ) → y ≡ x → timesIn x (y ∷ ns) ≡ timesIn x ns + 1
+times-same x y ns q = times-cons x y ns ∙ ap (λ t. (if t then 1 else 0) + timesIn x ns) (eq-eqb y x q) ∙ omega arith
 
-any-snoc : {A : Type 0} (p : A → Bool) (xs : List A) (y : A) → any p xs ≡ false → p y ≡ false → any p (xs ++ (y ∷ [])) ≡ false
-unfolding any
-any-snoc p [] y q r = ap (λ t. t || false) r
-any-snoc p (x ∷ xs) y q r = go (p x) q (any-snoc p xs y)
+times-other : (x y : ℕ) (ns : List ℕ) → (y ≡ x → ⊥) → timesIn x (y ∷ ns) ≡ timesIn x ns
+times-other x y ns f = times-cons x y ns ∙ ap (λ t. (if t then 1 else 0) + timesIn x ns) (ne-eqb y x f) ∙ omega arith
+
+times-least : (x y : ℕ) (ns : List ℕ) → timesIn x ns ≤ timesIn x (y ∷ ns)
+times-least x y ns = omega (arith, times-cons x y ns)
+
+-- ---- some number stands more than twice where two after some number equal it
+
+often-true : (ns xs : List ℕ) (x : ℕ) → 0 < timesIn x xs → 2 < timesIn x ns → someFrequent ns xs ≡ true
+unfolding someFrequent any isFrequent
+often-true ns [] x h l = absurd (omega (arith, times-nil x))
+often-true ns (y ∷ ys) x h l = go (eqb y x) refl (often-true ns ys x)
   where
-    go : (t : Bool) → (t || any p xs) ≡ false → (any p xs ≡ false → p y ≡ false → any p (xs ++ (y ∷ [])) ≡ false) → (t || any p (xs ++ (y ∷ []))) ≡ false
-    go true q ih = q
-    go false q ih = ih q r
+    or-true : (s : Bool) {t : Bool} → t ≡ true → (s || t) ≡ true
+    or-true true q = refl
+    or-true false q = q
 
-module _ (d : List ℕ) (at : ℕ) where
-  numbers-more : (k : ℕ) → numbersIn d at (k + 1) ≡ numbersIn d at k ++ (be64 d (at + 8 * k) ∷ [])
-  unfolding numbersIn numberAt
-  numbers-more k = range-more (λ i. be64 d (at + 8 * i)) k
+    go : (t : Bool) → eqb y x ≡ t → (0 < timesIn x ys → 2 < timesIn x ns → any (isFrequent ns) ys ≡ true) → (ltb 2 (timesIn y ns) || any (isFrequent ns) ys) ≡ true
+    go true q ih = ap (λ t. t || any (isFrequent ns) ys) (ap (λ z. ltb 2 (timesIn z ns)) (eqb-true y x q) ∙ lt-ltb 2 (timesIn x ns) l)
+    go false q ih = or-true (ltb 2 (timesIn y ns)) (ih (omega (arith, times-other x y ys (λ e. not-both (eq-eqb y x e) q))) l)
 
-  pub times-none : (x : ℕ) → 0 ≡ timesIn x (numbersIn d at 0)
+often-false : (ns xs : List ℕ) → ((x : ℕ) → timesIn x ns ≤ 2) → someFrequent ns xs ≡ false
+unfolding someFrequent any isFrequent
+often-false ns [] f = refl
+often-false ns (y ∷ ys) f = ap₂ (λ s t. s || t) (le-ltb 2 (timesIn y ns) (f y)) (often-false ns ys f)
+
+repeated-most : (ns : List ℕ) → someRepeated ns ≡ false → (x : ℕ) → timesIn x ns ≤ 2
+unfolding someRepeated
+repeated-most [] q x = omega (arith, times-nil x)
+repeated-most (y ∷ ys) q x = go (ltb 1 (timesIn y ys)) refl q (λ z. repeated-most ys z x) (eqb y x) refl
+  where
+    go : (s : Bool) → ltb 1 (timesIn y ys) ≡ s → (s || someRepeated ys) ≡ false → (someRepeated ys ≡ false → timesIn x ys ≤ 2) → (t : Bool) → eqb y x ≡ t → timesIn x (y ∷ ys) ≤ 2
+    go true p z ih t r = not-both refl z
+    go false p z ih true r =
+        let e : y ≡ x = eqb-true y x r in
+        omega (arith, times-same x y ys e, ap (λ i. timesIn i ys) e, ltb-false 1 (timesIn y ys) p)
+    go false p z ih false r = omega (arith, times-other x y ys (λ e. not-both (eq-eqb y x e) r), ih z)
+
+repeated-some : {P : Type 0} (ns : List ℕ) → someRepeated ns ≡ true → ((x : ℕ) → 2 < timesIn x ns → P) → P
+unfolding someRepeated
+repeated-some [] q f = not-both q refl
+repeated-some {P} (y ∷ ys) q f = go (ltb 1 (timesIn y ys)) refl q (λ z. repeated-some ys z (λ x h. f x (omega (arith, times-least x y ys))))
+  where
+    go : (s : Bool) → ltb 1 (timesIn y ys) ≡ s → (s || someRepeated ys) ≡ true → (someRepeated ys ≡ true → P) → P
+    go true p z ih = f y (omega (arith, times-same y y ys refl, ltb-true 1 (timesIn y ys) p))
+    go false p z ih = ih z
+
+pub frequent-is : (ns : List ℕ) → someFrequent ns ns ≡ someRepeated ns
+frequent-is ns = go (someRepeated ns) refl
+  where
+    go : (t : Bool) → someRepeated ns ≡ t → someFrequent ns ns ≡ t
+    go true q = repeated-some ns q (λ x h. often-true ns ns x (omega arith) h)
+    go false q = often-false ns ns (repeated-most ns q)
+
+-- ---- the loops, from number to number
+
+module _ (d : List ℕ) (at n : ℕ) where
+  numbers-none : n ≡ 0 → numbersIn d at n ≡ []
   unfolding numbersIn range
-  times-none x = sym (times-nil x)
+  numbers-none q = ap (λ i. map (numberAt d at) (range 0 i)) q
 
-  pub times-more : (x n y r k : ℕ) → n ≡ timesIn x (numbersIn d at k) → y ≡ be64 d (at + 8 * k) → r ≡ n + (if eqb y x then 1 else 0)
-      → r ≡ timesIn x (numbersIn d at (k + 1))
-  times-more x n y r k p q e =
-      e ∙ ap₂ (λ m z. m + (if eqb z x then 1 else 0)) p q ∙ sym (times-snoc x (be64 d (at + 8 * k)) (numbersIn d at k)) ∙ ap (timesIn x) (sym (numbers-more k))
-
-  pub times-all : (x n k count : ℕ) → n ≡ timesIn x (numbersIn d at k) → k ≡ count → n ≡ timesIn x (numbersIn d at count)
-  times-all x n k count p q = p ∙ ap (λ i. timesIn x (numbersIn d at i)) q
-
-  pub frequent-none : (ns : List ℕ) → someFrequent ns (numbersIn d at 0) ≡ false
-  unfolding someFrequent numbersIn range any
-  frequent-none ns = refl
-
-  pub frequent-more : (ns : List ℕ) (k y t : ℕ) → someFrequent ns (numbersIn d at k) ≡ false → y ≡ be64 d (at + 8 * k) → t ≡ timesIn y ns → t ≤ 2
-      → someFrequent ns (numbersIn d at (k + 1)) ≡ false
-  unfolding someFrequent
-  frequent-more ns k y t p q r h =
-      ap (any (isFrequent ns)) (numbers-more k)
-      ∙ any-snoc (isFrequent ns) (numbersIn d at k) (be64 d (at + 8 * k)) p (unfold isFrequent in (ap (λ z. ltb 2 (timesIn z ns)) (sym q) ∙ le-ltb 2 (timesIn y ns) (omega arith)))
-
-  pub frequent-all : (ns : List ℕ) (k count : ℕ) → someFrequent ns (numbersIn d at k) ≡ false → k ≡ count → false ≡ someFrequent ns (numbersIn d at count)
-  frequent-all ns k count p q = sym p ∙ ap (λ i. someFrequent ns (numbersIn d at i)) q
-
-  pub frequent-found : (n k y t : ℕ) → k < n → y ≡ be64 d (at + 8 * k) → t ≡ timesIn y (numbersIn d at n) → 2 < t
-      → true ≡ someFrequent (numbersIn d at n) (numbersIn d at n)
-  unfolding someFrequent
-  frequent-found n k y t l q r h =
-      sym (any-mem (isFrequent (numbersIn d at n)) (numbersIn d at n) among often)
+  numbers-first : 0 < n → numbersIn d at n ≡ be64 d at ∷ numbersIn d (at + 8) (n - 1)
+  unfolding numbersIn numberAt
+  numbers-first h =
+      let one : n ≡ suc (n - 1) = omega arith in
+      let here : at + 8 * 0 ≡ at = omega arith in
+      ap (λ i. map (numberAt d at) (range 0 i)) one ∙ map-range-first (numberAt d at) (n - 1)
+      ∙ ap₂ (λ x l. x ∷ l) (ap (be64 d) here) (map-same (λ j. numberAt d at (j + 1)) (numberAt d (at + 8)) (λ j. ap (be64 d) (next j)) (range 0 (n - 1)))
     where
-      among : Mem (be64 d (at + 8 * k)) (numbersIn d at n)
-      among = unfold numbersIn numberAt in (mem-map (λ i. be64 d (at + 8 * i)) (mem-range 0 n k (omega arith) (omega arith)))
+      next : (j : ℕ) → at + 8 * (j + 1) ≡ at + 8 + 8 * j
+      next j = omega arith
 
-      often : isFrequent (numbersIn d at n) (be64 d (at + 8 * k)) ≡ true
-      often = unfold isFrequent in (ap (λ z. ltb 2 (timesIn z (numbersIn d at n))) (sym q) ∙ lt-ltb 2 (timesIn y (numbersIn d at n)) (omega arith))
+  pub times-end : (x : ℕ) → n ≡ 0 → timesIn x (numbersIn d at n) ≡ 0
+  times-end x q = ap (timesIn x) (numbers-none q) ∙ times-nil x
+
+  pub repeated-end : n ≡ 0 → someRepeated (numbersIn d at n) ≡ false
+  unfolding someRepeated
+  repeated-end q = ap someRepeated (numbers-none q)
+
+  module _ (y : ℕ) (q : y ≡ be64 d at) (h : 0 < n) where
+    first : numbersIn d at n ≡ y ∷ numbersIn d (at + 8) (n - 1)
+    first = numbers-first h ∙ ap (λ z. z ∷ numbersIn d (at + 8) (n - 1)) (sym q)
+
+    pub times-found : (x : ℕ) → y ≡ x → timesIn x (numbersIn d at n) ≡ timesIn x (numbersIn d (at + 8) (n - 1)) + 1
+    times-found x e = ap (timesIn x) first ∙ times-same x y (numbersIn d (at + 8) (n - 1)) e
+
+    pub times-passed : (x : ℕ) → (y ≡ x → ⊥) → timesIn x (numbersIn d at n) ≡ timesIn x (numbersIn d (at + 8) (n - 1))
+    times-passed x f = ap (timesIn x) first ∙ times-other x y (numbersIn d (at + 8) (n - 1)) f
+
+    repeated-first : someRepeated (numbersIn d at n) ≡ (ltb 1 (timesIn y (numbersIn d (at + 8) (n - 1))) || someRepeated (numbersIn d (at + 8) (n - 1)))
+    unfolding someRepeated
+    repeated-first = ap someRepeated first
+
+    pub run-one : (r : ℕ) → r ≡ 1 → Run d at n y r
+    run-one r e =
+        record {
+          some = omega arith;
+          most = omega arith;
+          room = omega arith;
+          rest = subst (λ r. someRepeated (numbersIn d at n) ≡ (ltb (2 - r) (timesIn y (numbersIn d (at + 8 * r) (n - r))) || someRepeated (numbersIn d (at + 8 * r) (n - r)))) (sym e) repeated-first;
+        }
+
+-- two in a row: x is repeated where it stands once more, and then the second adds nothing
+two-first : (x : ℕ) (ns : List ℕ) → someRepeated (x ∷ (x ∷ ns)) ≡ (ltb 0 (timesIn x ns) || someRepeated ns)
+unfolding someRepeated
+two-first x ns = ap (λ m. ltb 1 m || (ltb 1 (timesIn x ns) || someRepeated ns)) (times-same x x ns refl) ∙ go (ltb 0 (timesIn x ns)) refl (someRepeated ns)
+  where
+    go : (t : Bool) → ltb 0 (timesIn x ns) ≡ t → (rest : Bool) → (ltb 1 (timesIn x ns + 1) || (ltb 1 (timesIn x ns) || rest)) ≡ (t || rest)
+    go true q rest = ap (λ t. t || (ltb 1 (timesIn x ns) || rest)) (lt-ltb 1 (timesIn x ns + 1) (omega (arith, ltb-true 0 (timesIn x ns) q)))
+    go false q rest =
+        ap₂ (λ s t. s || (t || rest)) (le-ltb 1 (timesIn x ns + 1) (omega (arith, ltb-false 0 (timesIn x ns) q))) (le-ltb 1 (timesIn x ns) (omega (arith, ltb-false 0 (timesIn x ns) q)))
+
+pub run-two : (d : List ℕ) (at n x y : ℕ) → x ≡ be64 d at → 2 ≤ n → y ≡ be64 d (at + 8) → y ≡ x → Run d at n x 2
+run-two d at n x y q h p e =
+    let back : n - 1 - 1 ≡ n - 2 = omega arith in
+    let on : at + 8 + 8 ≡ at + 16 = omega arith in
+    record {
+      some = omega arith;
+      most = omega arith;
+      room = h;
+      rest =
+          ap someRepeated
+          (first d at n x q (omega arith) ∙ ap (λ l. x ∷ l) (first d (at + 8) (n - 1) y p (omega arith))
+          ∙ ap₂ (λ z l. x ∷ (z ∷ l)) e (ap₂ (numbersIn d) on back))
+          ∙ two-first x (numbersIn d (at + 16) (n - 2));
+    }
+
+module _ {d : List ℕ} {at n x r : ℕ} (run : Run d at n x r) (t : Bool) (q : t ≡ ltb (2 - r) (timesIn x (numbersIn d (at + 8 * r) (n - r)))) where
+  pub repeated-found : t ≡ true → someRepeated (numbersIn d at n) ≡ true
+  repeated-found e = run .rest ∙ ap (λ s. s || someRepeated (numbersIn d (at + 8 * r) (n - r))) (sym q ∙ e)
+
+  pub repeated-passed : t ≡ false → someRepeated (numbersIn d at n) ≡ someRepeated (numbersIn d (at + 8 * r) (n - r))
+  repeated-passed e = run .rest ∙ ap (λ s. s || someRepeated (numbersIn d (at + 8 * r) (n - r))) (sym q ∙ e)
+
+pub third-one : (m r : ℕ) (t : Bool) → 0 < r → r < 2 → t ≡ ltb 1 m → t ≡ ltb (2 - r) m
+third-one m r t h l q =
+    let e : 1 ≡ 2 - r = omega arith in
+    q ∙ ap (λ i. ltb i m) e
+
+pub third-two : (m r : ℕ) (t : Bool) → 2 ≤ r → t ≡ ltb 0 m → t ≡ ltb (2 - r) m
+third-two m r t h q =
+    let e : 0 ≡ 2 - r = omega arith in
+    q ∙ ap (λ i. ltb i m) e
+
+-- the answers about times m, where n were left
+pub more-true : (m n r : ℕ) → m ≡ n → n ≡ r + 1 → true ≡ ltb 0 m
+more-true m n r p q = sym (lt-ltb 0 m (omega arith))
+
+pub more-false : (k m n : ℕ) → m ≡ n → n ≡ 0 → false ≡ ltb k m
+more-false k m n p q = sym (le-ltb k m (omega arith))
+
+pub more-after : (m n r : ℕ) (t : Bool) → m ≡ n → n ≡ r + 1 → t ≡ ltb 0 r → t ≡ ltb 1 m
+more-after m n r t p q e = go (ltb 0 r) refl e
+  where
+    go : (s : Bool) → ltb 0 r ≡ s → t ≡ s → t ≡ ltb 1 m
+    go true z w = w ∙ sym (lt-ltb 1 m (omega (arith, ltb-true 0 r z)))
+    go false z w = w ∙ sym (le-ltb 1 m (omega (arith, ltb-false 0 r z)))
 
 -- ---- Loop
 

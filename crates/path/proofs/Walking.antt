@@ -10,7 +10,6 @@ use mathlib.Core.List.{List, [], _∷_, _++_, map, flatMap, reverse, reverse-con
 use lib.ListN.{length}
 use lib.Dec.{eqb, ltb}
 use borrow.Author.Tests.{eqb-true, eq-eqb, ltb-true, lt-ltb}
-use Rattle.spec.specs.declared.Head.{Head}
 use Rattle.spec.specs.declared.HopField.{HopField}
 use Rattle.spec.specs.declared.InfoField.{InfoField}
 use Rattle.spec.specs.declared.AsEntry.{AsEntry}
@@ -18,7 +17,7 @@ use Rattle.spec.specs.declared.Edge.{Edge}
 use Rattle.spec.specs.Limits.{infoSize, maxTime}
 use Rattle.spec.specs.Basics.{if_then_else_, range}
 use Rattle.spec.specs.Octets.{octets2, octets4}
-use Rattle.spec.specs.Book.{Segment, headAt, macAt, asEntryAt, segmentAt}
+use Rattle.spec.specs.Book.{Segment, timestampAt, idAt, macAt, asEntryAt, segmentAt}
 use Rattle.spec.specs.Edges.{entryOf}
 use Rattle.spec.specs.Assembly.{least, unitsOf, life, mtusAt, hopOf, hopCount, usedEntries, interfacesAt, inDirection, hopsOf, interfacesOf, mtusOf, infoOf, expiryOf, segmentOf, hopsOn, interfacesOn, mtusOn, infoOn, expiryOn, isPeerHop, isPeerEdge, atShortcut, foldStep, foldMacs, idBelow, stopAt}
 use Rattle.spec.specs.Records.{bit, hopOctets, infoOctets, interfaceAsOctets, interfaceIdOctets}
@@ -39,7 +38,7 @@ use Rattle.path.proofs.Showing.{least-append, least-one}
 
 -- ---- lists
 
-pub range-more : {A : Type 0} (f : ℕ → A) (j : ℕ) → map f (range 0 (j + 1)) ≡ map f (range 0 j) ++ (f j ∷ [])
+range-more : {A : Type 0} (f : ℕ → A) (j : ℕ) → map f (range 0 (j + 1)) ≡ map f (range 0 j) ++ (f j ∷ [])
 range-more f j =
     ap (λ n. map f (range 0 n)) (add-one j) ∙ ap (map f) (range-suc 0 j) ∙ map-append f (range 0 j) ((0 + j) ∷ [])
     ∙ ap (λ i. map f (range 0 j) ++ (f i ∷ [])) (zero-add j)
@@ -187,9 +186,9 @@ module _ (b : List ℕ) (e : Edge) where
       p ∙ ap (λ i. least 255 (map unitsOf (map (hopOf (segmentOf b e) e) (passed b e i)))) q
       ∙ ap (λ l. least 255 (map unitsOf (map (hopOf (segmentOf b e) e) l))) (passed-all b e) ∙ ap (λ l. least 255 (map unitsOf l)) (sym (hops-on b e u))
 
-  pub time-read : (h : Head) → h ≡ headAt b (e .position) → h .timestamp ≡ segmentOf b e .timestamp
-  unfolding headAt segmentOf segmentAt
-  time-read h q = ap (λ (x : Head). x .timestamp) q
+  pub time-read : (t : ℕ) → t ≡ timestampAt b (e .position) → t ≡ segmentOf b e .timestamp
+  unfolding segmentOf segmentAt
+  time-read t q = q
 
   module _ (t x l : ℕ) (p : t ≡ segmentOf b e .timestamp) (q : x ≡ least 255 (map unitsOf (hopsOn b e))) (r : l ≡ life x) where
     expiry-is : min maxTime (t + l) ≡ expiryOn b e
@@ -226,9 +225,9 @@ module _ (b : List ℕ) (e : Edge) where
 
   -- ---- ids
 
-  pub id-none : (h : Head) → h ≡ headAt b (e .position) → h .id ≡ idBelow (segmentOf b e) 0
-  unfolding headAt segmentOf segmentAt idBelow foldMacs
-  id-none h q = ap (λ (x : Head). x .id) q
+  pub id-none : (x : ℕ) → x ≡ idAt b (e .position) → x ≡ idBelow (segmentOf b e) 0
+  unfolding segmentOf segmentAt idBelow foldMacs
+  id-none x q = q
 
   pub id-more : (i at x : ℕ) → Here b e i at → i < length (segmentOf b e .entries) → x ≡ idBelow (segmentOf b e) i → foldStep x (macAt b (at + 19)) ≡ idBelow (segmentOf b e) (i + 1)
   unfolding asEntryAt

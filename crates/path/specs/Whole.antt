@@ -1,9 +1,9 @@
 -- The edges of a chain, and the ASes of a path's interfaces as they stand in its record.
 -- Assumes nothing.
-use Prim.Native.Nat.{ℕ, _+_, _*_}
+use Prim.Native.Nat.{ℕ, _+_, _-_, _*_, _≤_, _<_}
 use mathlib.Core.Path.{_≡_}
-use mathlib.Core.Bool.{Bool}
-use mathlib.Core.List.{List, _++_, map, flatMap, List·Memᴰ as Mem}
+use mathlib.Core.Bool.{Bool, false, _||_}
+use mathlib.Core.List.{List, [], _∷_, _++_, map, flatMap, List·Memᴰ as Mem}
 use lib.ListN.{length}
 use lib.Dec.{eqb, ltb}
 use Rattle.spec.specs.declared.Edge.{Edge}
@@ -41,6 +41,18 @@ isFrequent ns x = ltb 2 (timesIn x ns)
 
 unfoldable pub someFrequent : List ℕ → List ℕ → Bool
 someFrequent ns xs = any (isFrequent ns) xs
+
+-- two of those after some number equal it
+unfoldable pub someRepeated : List ℕ → Bool
+someRepeated [] = false
+someRepeated (x ∷ xs) = ltb 1 (timesIn x xs) || someRepeated xs
+
+-- x is the first r of n numbers: some number stands more than twice where 3 - r of x follow, or among those that follow
+pub record Run (d : List ℕ) (at n x r : ℕ) : Type 0 where
+  pub some : 0 < r
+  pub most : r ≤ 2
+  pub room : r ≤ n
+  pub rest : someRepeated (numbersIn d at n) ≡ (ltb (2 - r) (timesIn x (numbersIn d (at + 8 * r) (n - r))) || someRepeated (numbersIn d (at + 8 * r) (n - r)))
 
 -- what stands before the ids: infos, hops, ASes
 unfoldable pub frontBytes : List ℕ → List Edge → List ℕ

@@ -103,8 +103,7 @@ pub(crate) fn expiry(book: &[u8], table: &[u16; places::PLACES], e: Edge) -> u32
     requires { ⌜ Usable (now book) e ⌝ }
     ensures { λ r. ⌜ r ≡ expiryOn (now (book .entry)) e ⌝ }
 {
-    let head = segment::head(book, e.position);
-    let start = head.timestamp;
+    let start = segment::timestamp(book, e.position);
     let life = standard::types::exp_time_to_duration(units(book, table, e));
     if LAST - start < life {
         return LAST;
@@ -133,8 +132,7 @@ fn segment_id(book: &[u8], table: &[u16; places::PLACES], e: Edge) -> u16
 {
     let n = places::entry_count(book, e);
     let stop = stop_from(e, places::entry_of(e, n, 0));
-    let head = segment::head(book, e.position);
-    let mut id = head.id;
+    let mut id = segment::id(book, e.position);
     let mut i: usize = 0;
     while i < stop {
         let at = places::offset(book, table, e, i);
@@ -180,8 +178,8 @@ pub(crate) fn put_info(
 {
     let n = places::entry_count(book, e);
     let hops = n - (e.shortcut as usize);
-    let head = segment::head(book, e.position);
     let id = segment_id(book, table, e);
-    put_fields(out, at, flags(e), hops as u8, id, head.timestamp);
+    let timestamp = segment::timestamp(book, e.position);
+    put_fields(out, at, flags(e), hops as u8, id, timestamp);
     at + INFO
 }

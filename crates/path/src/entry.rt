@@ -4,7 +4,7 @@ ghost use mathlib.Core.List.{_++_};
 ghost use Prim.Native.Nat.{_+_, _^_, _≤_, _<_, min};
 ghost use lib.ListN.{length};
 ghost use Rattle.spec.specs.Limits.{entrySize};
-ghost use Rattle.spec.specs.Book.{asEntryAt};
+ghost use Rattle.spec.specs.Book.{isdAsnAt, asEntryAt};
 ghost use Rattle.spec.specs.Edges.{asOf};
 ghost use Rattle.output.specs.Write.{written};
 ghost use Rattle.spec.specs.Assembly.{least, mtusAt, hopOf, segmentOf};
@@ -15,6 +15,7 @@ ghost use Rattle.path.specs.declared.Part.the-variants.{Hops, Ases, Ids}
 ghost use Rattle.path.specs.Parts.{linkMtus, ingressShown, shownAs, asIf, idIf, interfacesHere, entryBytes};
 use crate::Part;
 use crate::places;
+use crate::within;
 use spec::Edge;
 use spec::IsdAsn;
 
@@ -35,9 +36,10 @@ pub(crate) fn units_at(book: &[u8], e: Edge, m: usize, at: usize) -> u8
     ensures { λ r. ⌜ r ≡ hopOf (segmentOf (now (book .entry)) e) e m .units ⌝ }
 {
     if places::is_peer_hop(e, m) {
-        return octets::byte_past(book, places::link_offset(e, at), 12);
+        let link = places::link_offset(e, at);
+        return book[link + 12];
     }
-    octets::byte_past(book, at, 18)
+    book[at + 18]
 }
 
 fn ingress_at(book: &[u8], e: Edge, m: usize, at: usize) -> u16
@@ -46,9 +48,9 @@ fn ingress_at(book: &[u8], e: Edge, m: usize, at: usize) -> u16
     ensures { λ r. ⌜ r ≡ hopOf (segmentOf (now (book .entry)) e) e m .ingress ⌝ }
 {
     if places::is_peer_hop(e, m) {
-        return octets::be16_past(book, places::link_offset(e, at), 13);
+        return within::read16(book, places::link_offset(e, at) + 13);
     }
-    octets::be16_past(book, at, 14)
+    within::read16(book, at + 14)
 }
 
 fn egress_at(book: &[u8], e: Edge, m: usize, at: usize) -> u16
@@ -57,9 +59,9 @@ fn egress_at(book: &[u8], e: Edge, m: usize, at: usize) -> u16
     ensures { λ r. ⌜ r ≡ hopOf (segmentOf (now (book .entry)) e) e m .egress ⌝ }
 {
     if places::is_peer_hop(e, m) {
-        return octets::be16_past(book, places::link_offset(e, at), 15);
+        return within::read16(book, places::link_offset(e, at) + 15);
     }
-    octets::be16_past(book, at, 16)
+    within::read16(book, at + 16)
 }
 
 // An entry's own hop: in the book its units stand after the interfaces.
@@ -69,9 +71,10 @@ fn put_own_hop(book: &[u8], at: usize, out: &mut [u8], to: usize)
     requires { ⌜ to < 2 ^ 40 ⌝ }
     ensures { λ _. ⌜ now (out .exit) ≡ written (now (out .entry)) to (hopOctets (asEntryAt (now (book .entry)) at .hop)) ⌝ }
 {
-    output::put_byte(out, to, octets::byte_past(book, at, 18));
-    output::copy(book, at + 14, 4, out, to + 1);
-    output::copy(book, at + 19, 6, out, to + 5);
+    output::put_byte(out, to, book[at + 18]);
+    output::put32(out, to + 1, within::read32(book, at + 14));
+    output::put32(out, to + 5, within::read32(book, at + 19));
+    output::put16(out, to + 9, within::read16(book, at + 23));
 }
 
 // A peer's hop stands in the book as in a path.
@@ -145,6 +148,13 @@ fn put_id(out: &mut [u8], to: usize, id: u16) -> usize
     to + 2
 }
 
+fn local_at(book: &[u8], at: usize) -> IsdAsn
+    requires { ⌜ at + entrySize ≤ length (now book) ⌝ }
+    ensures { λ r. ⌜ r ≡ isdAsnAt (now (book .entry)) at ⌝ }
+{
+    IsdAsn(within::read64(book, at))
+}
+
 fn put_ases(book: &[u8], e: Edge, m: usize, at: usize, out: &mut [u8], to: usize) -> usize
     requires { ⌜ Here (now book) e m at ⌝ }
     requires { ⌜ at < 2 ^ 16 ⌝ }
@@ -152,7 +162,7 @@ fn put_ases(book: &[u8], e: Edge, m: usize, at: usize, out: &mut [u8], to: usize
     ensures { λ r. ⌜ Wrote (now (out .entry)) to (entryBytes (now (book .entry)) e Ases m) (now (out .exit)) r × (r ≤ to + 16) ⌝ }
 {
     let shown = shown(book, e, m, at);
-    let local = segment::isd_asn(book, at);
+    let local = local_at(book, at);
     let next = put_as(out, to, local, shown.first);
     put_as(out, next, local, shown.second)
 }
@@ -209,12 +219,12 @@ fn link_mtu(book: &[u8], e: Edge, m: usize, at: usize, x: u16) -> u16
     ensures { λ r. ⌜ r ≡ least x (linkMtus (segmentOf (now (book .entry)) e) e m) ⌝ }
 {
     if places::is_peer_hop(e, m) {
-        return less(x, octets::be16_past(book, places::link_offset(e, at), 10));
+        return less(x, within::read16(book, places::link_offset(e, at) + 10));
     }
     if places::is_left(e, m) {
         return x;
     }
-    let ingress = octets::be16_past(book, at, 12);
+    let ingress = within::read16(book, at + 12);
     if ingress == 0 {
         return x;
     }
@@ -228,5 +238,5 @@ pub(crate) fn mtu_at(book: &[u8], e: Edge, m: usize, at: usize, x: u16) -> u16
     ensures { λ r. ⌜ r ≡ least x (mtusAt (segmentOf (now (book .entry)) e) e m) ⌝ }
 {
     let y = link_mtu(book, e, m, at, x);
-    less(y, (octets::be32_past(book, at, 8) % 65536) as u16)
+    less(y, (within::read32(book, at + 8) % 65536) as u16)
 }

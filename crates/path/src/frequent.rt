@@ -1,45 +1,94 @@
-// Whether some AS stands more than twice among the numbers of a record.
+// Whether some AS stands more than twice among the numbers of a record: whether two after some number equal it.
 ghost use mathlib.Core.Path.{_≡_};
-ghost use Prim.Native.Nat.{_+_, _*_, _^_, _≤_, _<_};
-ghost use lib.Dec.{eqb};
-ghost use Rattle.spec.specs.Basics.{if_then_else_};
-ghost use Rattle.path.specs.Whole.{numbersIn, timesIn, someFrequent};
+ghost use Prim.Native.Nat.{_+_, _-_, _*_, _^_, _≤_, _<_};
+ghost use lib.ListN.{length};
+ghost use lib.Dec.{ltb};
+ghost use Rattle.spec.specs.Octets.{be64};
+ghost use Rattle.path.specs.Whole.{numbersIn, timesIn, someFrequent, Run};
+use crate::within;
 
-fn counted(n: usize, x: u64, y: u64) -> usize
-    requires { ⌜ n < 2 ^ 32 ⌝ }
-    ensures { λ r. ⌜ (r ≡ n + (if eqb y x then 1 else 0)) × (r ≤ n + 1) ⌝ }
-{
-    if y == x {
-        return n + 1;
-    }
-    n
-}
-
-// How often x is among the `count` numbers from `at` on.
-fn times(out: &[u8], at: usize, count: usize, x: u64) -> usize
+// x is among the `count` numbers from `at` on.
+fn is_among(out: &[u8], at: usize, count: usize, x: u64) -> bool
+    requires { ⌜ at + 8 * count ≤ length (now out) ⌝ }
     requires { ⌜ at + 8 * count < 2 ^ 32 ⌝ }
-    ensures { λ r. ⌜ r ≡ timesIn x (numbersIn (now (out .entry)) at count) ⌝ }
+    ensures { λ r. ⌜ r ≡ ltb 0 (timesIn x (numbersIn (now (out .entry)) at count)) ⌝ }
 {
-    let mut n: usize = 0;
-    let mut k: usize = 0;
-    while k < count {
-        n = counted(n, x, octets::be64(out, at + 8 * k));
-        k += 1;
+    let mut next = at;
+    let mut left = count;
+    while left > 0 {
+        if within::read64(out, next) == x {
+            return true;
+        }
+        next += 8;
+        left -= 1;
     }
-    n
+    false
 }
 
-// Some number stands more than twice among them.
+// x stands twice among them.
+fn is_repeated(out: &[u8], at: usize, count: usize, x: u64) -> bool
+    requires { ⌜ at + 8 * count ≤ length (now out) ⌝ }
+    requires { ⌜ at + 8 * count < 2 ^ 32 ⌝ }
+    ensures { λ r. ⌜ r ≡ ltb 1 (timesIn x (numbersIn (now (out .entry)) at count)) ⌝ }
+{
+    let mut next = at;
+    let mut left = count;
+    while left > 0 {
+        if within::read64(out, next) == x {
+            return is_among(out, next + 8, left - 1, x);
+        }
+        next += 8;
+        left -= 1;
+    }
+    false
+}
+
+// How many of the first two numbers are x, of which the first is.
+fn run_of(out: &[u8], at: usize, count: usize, x: u64) -> usize
+    requires { ⌜ at + 8 * count ≤ length (now out) ⌝ }
+    requires { ⌜ at + 8 * count < 2 ^ 32 ⌝ }
+    requires { ⌜ 0 < count ⌝ }
+    requires { ⌜ x ≡ be64 (now out) at ⌝ }
+    ensures { λ r. ⌜ Run (now (out .entry)) at count x r ⌝ }
+{
+    if count < 2 {
+        return 1;
+    }
+    if within::read64(out, at + 8) == x {
+        return 2;
+    }
+    1
+}
+
+// With `run` more, x stands more than twice.
+fn is_third(out: &[u8], at: usize, count: usize, x: u64, run: usize) -> bool
+    requires { ⌜ at + 8 * count ≤ length (now out) ⌝ }
+    requires { ⌜ at + 8 * count < 2 ^ 32 ⌝ }
+    requires { ⌜ (0 < run) × (run ≤ 2) ⌝ }
+    ensures { λ r. ⌜ r ≡ ltb (2 - run) (timesIn x (numbersIn (now (out .entry)) at count)) ⌝ }
+{
+    if run < 2 {
+        return is_repeated(out, at, count, x);
+    }
+    is_among(out, at, count, x)
+}
+
+// Some number stands more than twice among them. Where two in a row are the same, the second needs no search.
 pub(crate) fn is_frequent(out: &[u8], at: usize, count: usize) -> bool
+    requires { ⌜ at + 8 * count ≤ length (now out) ⌝ }
     requires { ⌜ at + 8 * count < 2 ^ 32 ⌝ }
     ensures { λ r. ⌜ r ≡ someFrequent (numbersIn (now (out .entry)) at count) (numbersIn (now (out .entry)) at count) ⌝ }
 {
-    let mut k: usize = 0;
-    while k < count {
-        if 2 < times(out, at, count, octets::be64(out, at + 8 * k)) {
+    let mut next = at;
+    let mut left = count;
+    while left > 0 {
+        let x = within::read64(out, next);
+        let run = run_of(out, next, left, x);
+        next += 8 * run;
+        left -= run;
+        if is_third(out, next, left, x, run) {
             return true;
         }
-        k += 1;
     }
     false
 }

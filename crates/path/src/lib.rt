@@ -4,6 +4,7 @@ mod entry;
 mod frequent;
 mod places;
 mod record;
+mod within;
 
 ghost use mathlib.Core.Path.{_≡_};
 ghost use Prim.Native.Nat.{_≤_};

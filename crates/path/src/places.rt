@@ -78,13 +78,14 @@ pub(crate) fn is_left(e: Edge, m: usize) -> bool
 
 // An entry's MAC.
 pub(crate) fn mac(book: &[u8], at: usize) -> [u8; 6]
+    requires { ⌜ at + entrySize ≤ length (now book) ⌝ }
     ensures { λ r. ⌜ r ≡ macAt (now (book .entry)) (at + 19) ⌝ }
 {
-    let b0 = octets::byte_past(book, at, 19);
-    let b1 = octets::byte_past(book, at, 20);
-    let b2 = octets::byte_past(book, at, 21);
-    let b3 = octets::byte_past(book, at, 22);
-    let b4 = octets::byte_past(book, at, 23);
-    let b5 = octets::byte_past(book, at, 24);
+    let b0 = book[at + 19];
+    let b1 = book[at + 20];
+    let b2 = book[at + 21];
+    let b3 = book[at + 22];
+    let b4 = book[at + 23];
+    let b5 = book[at + 24];
     [b0, b1, b2, b3, b4, b5]
 }

@@ -2,7 +2,7 @@
 ghost use mathlib.Core.Path.{_≡_};
 ghost use Prim.Native.Nat.{_+_, _*_, _^_, _≤_, _<_};
 ghost use Rattle.spec.specs.Limits.{sizesSize, headSize};
-ghost use Rattle.spec.specs.Book.{segmentCount, headOffset, idAt, entryCountAt, bodyLengthAt, sizesAt, headAt, lengthsBelow, bodyOffset};
+ghost use Rattle.spec.specs.Book.{segmentCount, headOffset, timestampAt, idAt, entryCountAt, bodyLengthAt, sizesAt, headAt, lengthsBelow, bodyOffset};
 use spec::Head;
 use spec::Sizes;
 
@@ -55,7 +55,13 @@ pub fn head(book: &[u8], k: u8) -> Head
     }
 }
 
-// One field of the head at position k, for loops over heads that need no other.
+// One field of the head at position k, for callers that need no other.
+pub fn timestamp(book: &[u8], k: u8) -> u32
+    ensures { λ r. ⌜ r ≡ timestampAt (now (book .entry)) k ⌝ }
+{
+    octets::be32(book, head_offset(k as usize))
+}
+
 pub fn id(book: &[u8], k: u8) -> u16
     ensures { λ r. ⌜ r ≡ idAt (now (book .entry)) k ⌝ }
 {

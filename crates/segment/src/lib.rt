@@ -16,3 +16,4 @@ pub use heads::head;
 pub use heads::id;
 pub use heads::segment_count;
 pub use heads::sizes;
+pub use heads::timestamp;

@@ -2,10 +2,14 @@
 -- Assumes nothing.
 use native.Mathlib.Omega.{arith}
 use Rattle.spec.proofs.BookLaws.{accepted}
-use Rattle.path.proofs.Assembling.{answer-loop, answer-bare, answer-path}
+use Rattle.path.proofs.Assembling.{ases-fit, answer-loop, answer-bare, answer-path}
 use borrow.Author.Needs.{needs}
 use Rattle.path.proofs.build.Statement.{statement}
 use Rattle.path.proofs.build.Tie as tie
+
+is-frequent-requires : tie.Need-is-frequent-requires
+is-frequent-requires c κs =
+    (ases-fit _ (λ i. c .before .before .before .before .before .before .before .shared-slice-known .given i .fits) (accepted _ (c .before .before .before .before .before .before .before .before .pre .0 .ok)) _ (c .before .before .before .before .before .before .before .before .pre .1 .0) _ _ (c .before .before .before .before .put-front .ensures .0) (omega arith), omega arith)
 
 returns : tie.Need-returns
 returns c =
@@ -32,7 +36,7 @@ build-spec =
     (tie.spec
     (λ c κs. search needs)
     (λ c. search needs)
-    (λ c κs. search needs)
+    is-frequent-requires
     (λ c κs. search needs)
     (λ c. search needs)
     returns

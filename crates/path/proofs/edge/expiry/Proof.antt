@@ -10,11 +10,11 @@ units-requires : tie.Need-units-requires
 units-requires c κs = (c .before .before .pre .0, c .before .before .pre .1)
 
 returns : tie.Need-returns
-returns c = expiry-late _ _ _ _ _ (time-read _ _ _ (c .before .before .before .head .ensures)) (c .before .before .units .ensures) (c .before .exp-time-to-duration .ensures) (c .if1 .taken)
+returns c = expiry-late _ _ _ _ _ (time-read _ _ _ (c .before .before .before .timestamp .ensures)) (c .before .before .units .ensures) (c .before .exp-time-to-duration .ensures) (c .if1 .taken)
 
 returns-2 : tie.Need-returns-2
 returns-2 c =
-    expiry-soon _ _ _ _ _ (time-read _ _ _ (c .before .before .before .head .ensures)) (c .before .before .units .ensures) (c .before .exp-time-to-duration .ensures) (c .if1 .left) (omega arith)
+    expiry-soon _ _ _ _ _ (time-read _ _ _ (c .before .before .before .timestamp .ensures)) (c .before .before .units .ensures) (c .before .exp-time-to-duration .ensures) (c .if1 .left) (omega arith)
 
 pub expiry-spec : {M : Type 1} → statement M
 expiry-spec =

@@ -11,12 +11,12 @@ entry-count-requires : tie.Need-entry-count-requires
 entry-count-requires c κs = (c .before .before .pre .0 .ok, c .before .before .pre .1 .0)
 
 segment-id-requires : tie.Need-segment-id-requires
-segment-id-requires c κs = (c .before .before .before .before .before .pre .0, c .before .before .before .before .before .pre .1 .0)
+segment-id-requires c κs = (c .before .before .before .before .pre .0, c .before .before .before .before .pre .1 .0)
 
 returns : tie.Need-returns
 returns c = (
   info-wrote _ _ _ _ _ _ _ _ _ (c .before .before .put-fields .ensures) (c .before .before .before .flags .ensures) (hops-are _ _ _ _ (c .before .before .before .before .before .before .before .before .entry-count .ensures .0) refl)
-      (c .before .before .before .before .before .segment-id .ensures) (time-read _ _ _ (c .before .before .before .before .before .before .head .ensures)),
+      (c .before .before .before .before .before .before .segment-id .ensures) (time-read _ _ _ (c .before .before .before .before .before .timestamp .ensures)),
   refl,
 )
 
@@ -27,8 +27,8 @@ put-info-spec =
     entry-count-requires
     (λ c. search needs)
     (λ c. search needs)
-    (λ c κs. search needs)
     segment-id-requires
+    (λ c κs. search needs)
     (λ c κs. search needs)
     (λ c. search needs)
     (λ c κs. search needs)

@@ -19,11 +19,14 @@ entry-count-requires : tie.Need-entry-count-requires Inv-loop μ-loop
 entry-count-requires c κs = (c .before .pre .0 .ok, c .before .pre .1)
 
 loop-holds : tie.Need-loop-holds Inv-loop μ-loop
-loop-holds c = (id-none _ _ _ (c .head .ensures), omega arith)
+loop-holds c = (id-none _ _ _ (c .id .ensures), omega arith)
 
 offset-requires : tie.Need-offset-requires Inv-loop μ-loop
 offset-requires c κs =
     (c .before .before .before .before .before .before .before .pre .0, (c .before .before .before .before .before .before .before .pre .1, omega (arith, c .before .before .before .stop-from .ensures .1, c .before .before .before .before .entry-of .ensures .1, c .before .before .before .before .before .entry-count .ensures .0)))
+
+mac-requires : tie.Need-mac-requires Inv-loop μ-loop
+mac-requires c κs = c .offset .ensures .0 .room
 
 loop-again : tie.Need-loop-again Inv-loop μ-loop
 loop-again c = (
@@ -48,7 +51,7 @@ segment-id-spec =
     (λ c κs. search needs)
     loop-holds
     offset-requires
-    (λ c κs. search needs)
+    mac-requires
     (λ c κs. search needs)
     (λ c. search needs)
     (λ c. search needs)

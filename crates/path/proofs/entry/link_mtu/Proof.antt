@@ -11,10 +11,13 @@ use Rattle.path.proofs.entry.link_mtu.Tie as tie
 link-offset-requires : tie.Need-link-offset-requires
 link-offset-requires c κs = (omega arith, c .before .before .before .pre .0 .link (sym (c .before .is-peer-hop .ensures) ∙ c .if1 .taken) .some)
 
+read16-requires : tie.Need-read16-requires
+read16-requires c κs = omega (arith, c .before .before .before .before .pre .0 .link (sym (c .before .before .is-peer-hop .ensures) ∙ c .before .if1 .taken) .room, c .link-offset .ensures .0)
+
 returns : tie.Need-returns
 returns c =
     let q = sym (c .before .before .before .before .is-peer-hop .ensures) ∙ c .before .before .before .if1 .taken in
-    rw (c .less .ensures, c .before .be16-past .ensures, c .before .before .link-offset .ensures .0, link-mtu-read _ _ _ _ (c .before .before .before .before .before .before .pre .0) q)
+    rw (c .less .ensures, c .before .read16 .ensures, c .before .before .link-offset .ensures .0, link-mtu-read _ _ _ _ (c .before .before .before .before .before .before .pre .0) q)
     (link-peer _ _ _ _ q)
 
 returns-2 : tie.Need-returns-2
@@ -23,11 +26,11 @@ returns-2 c = link-left _ _ _ _ (sym (c .before .before .before .is-peer-hop .en
 returns-3 : tie.Need-returns-3
 returns-3 c =
     link-unknown _ _ _ _ (sym (c .before .before .before .before .before .is-peer-hop .ensures) ∙ c .before .before .before .before .if1 .left)
-    (sym (ingress-mtu-read _ _ _ _ (c .before .before .before .before .before .before .before .pre .0)) ∙ sym (c .before .be16-past2 .ensures) ∙ c .if3 .taken)
+    (sym (ingress-mtu-read _ _ _ _ (c .before .before .before .before .before .before .before .pre .0)) ∙ sym (c .before .read162 .ensures) ∙ c .if3 .taken)
 
 returns-4 : tie.Need-returns-4
 returns-4 c =
-    let e = c .before .before .be16-past2 .ensures ∙ ingress-mtu-read _ _ _ _ (c .before .before .before .before .before .before .before .before .pre .0) in
+    let e = c .before .before .read162 .ensures ∙ ingress-mtu-read _ _ _ _ (c .before .before .before .before .before .before .before .before .pre .0) in
     rw (c .less2 .ensures, e)
     (link-known _ _ _ _ (sym (c .before .before .before .before .before .before .is-peer-hop .ensures) ∙ c .before .before .before .before .before .if1 .left) (sym (c .before .before .before .before .is-left .ensures) ∙ c .before .before .before .if2 .left) (λ z. c .before .if3 .left (e ∙ z)))
 
@@ -37,11 +40,13 @@ link-mtu-spec =
     (tie.spec
     (λ c κs. search needs)
     link-offset-requires
-    (λ c κs. search needs)
+    (λ c. search needs)
+    read16-requires
     (λ c κs. search needs)
     returns
     (λ c κs. search needs)
     returns-2
+    (λ c. search needs)
     (λ c κs. search needs)
     returns-3
     (λ c κs. search needs)

@@ -8,8 +8,8 @@ use Rattle.path.proofs.entry.mtu_at.Tie as tie
 
 returns : tie.Need-returns
 returns c =
-    rw (c .less .ensures, c .before .before .link-mtu .ensures, c .before .be32-past .ensures, mtu-read _ _ _ _ (c .before .before .before .before .pre .0)) (mtus-both _ _ _ _)
+    rw (c .less .ensures, c .before .before .link-mtu .ensures, c .before .read32 .ensures, mtu-read _ _ _ _ (c .before .before .before .before .pre .0)) (mtus-both _ _ _ _)
 
 pub mtu-at-spec : {M : Type 1} → statement M
 mtu-at-spec =
-    tie.close (tie.spec (λ c κs. search needs) (λ c κs. search needs) (λ c. search needs) (λ c κs. search needs) returns)
+    tie.close (tie.spec (λ c κs. search needs) (λ c. search needs) (λ c κs. search needs) (λ c. search needs) (λ c κs. search needs) returns)

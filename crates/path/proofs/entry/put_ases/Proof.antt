@@ -10,7 +10,7 @@ use Rattle.path.proofs.entry.put_ases.Tie as tie
 
 returns : tie.Need-returns
 returns c =
-    let e = c .before .before .before .before .before .before .before .before .isd-asn .ensures ∙ local-read _ _ _ _ (c .before .before .before .before .before .before .before .before .before .before .before .before .pre .0) in
+    let e = c .before .before .before .before .before .before .before .before .local-at .ensures ∙ local-read _ _ _ _ (c .before .before .before .before .before .before .before .before .before .before .before .before .pre .0) in
     (ases-wrote _ _ _ _ _ _ (c .before .before .before .before .before .before .before .before .before .shown .ensures) (rw e at (c .before .before .before .before .before .before .put-as .ensures .0)) (rw e at (c .before .before .put-as2 .ensures .0)), omega arith)
 
 pub put-ases-spec : {M : Type 1} → statement M

@@ -1,0 +1,26 @@
+-- `run_of` meets its contract.
+-- Assumes nothing.
+use mathlib.Core.Path.{refl}
+use Rattle.path.proofs.Repeats.{run-one, run-two}
+use borrow.Author.Needs.{needs}
+use Rattle.path.proofs.frequent.run_of.Statement.{statement}
+use Rattle.path.proofs.frequent.run_of.Tie as tie
+
+returns : tie.Need-returns
+returns c = run-one _ _ _ _ (c .before .before .pre .1 .1 .1) (c .before .before .pre .1 .1 .0) _ refl
+
+returns-2 : tie.Need-returns-2
+returns-2 c = run-two _ _ _ _ _ (c .before .before .before .before .pre .1 .1 .1) (c .before .before .if1 .left) (c .before .read64 .ensures) (c .if2 .taken)
+
+returns-3 : tie.Need-returns-3
+returns-3 c = run-one _ _ _ _ (c .before .before .before .before .pre .1 .1 .1) (c .before .before .before .before .pre .1 .1 .0) _ refl
+
+pub run-of-spec : {M : Type 1} → statement M
+run-of-spec =
+    tie.close
+    (tie.spec
+    returns
+    (λ c. search needs)
+    (λ c κs. search needs)
+    returns-2
+    returns-3)
