@@ -1,10 +1,10 @@
 -- The turns of the loops that answer about a book: what a definition's recursion says at one step, by cases of the tests.
 -- What the code holds stands as a variable, beside the equation that says what it is.
 -- Assumes nothing.
-use mathlib.Core.Path.{_≡_, refl, sym, ap, _∙_}
+use mathlib.Core.Path.{_≡_, refl, sym, ap, ap₂, _∙_}
 use mathlib.Core.Bool.{Bool, true, false, not}
 use mathlib.Core.List.{List}
-use Prim.Native.Nat.{ℕ, zero, suc, _+_, _*_, _-_, _≤_, _<_}
+use Prim.Native.Nat.{ℕ, zero, suc, _+_, _*_, _-_, _^_, _≤_, _<_}
 use native.Mathlib.Decide.{ℕ-discrete}
 use native.Mathlib.Omega.{arith}
 use lib.ListN.{length, getD}
@@ -15,9 +15,10 @@ use Rattle.spec.specs.declared.Refusal.{Refusal}
 use Rattle.spec.specs.declared.Refusal.the-variants.{Cut, Surplus, Oversize, Crowded, Long, Peers, Misfit}
 use Rattle.spec.specs.declared.Verdict.{Verdict}
 use Rattle.spec.specs.declared.Verdict.the-variants.{Accepted, Refused}
-use Rattle.spec.specs.Limits.{sizesSize, maxBook, maxSegments, maxEntries, maxPeers, entrySize, peerSize}
+use Rattle.spec.specs.Limits.{sizesSize, headSize, maxBook, maxSegments, maxEntries, maxPeers, entrySize, peerSize}
 use Rattle.spec.specs.Basics.{if_then_else_, any, range}
-use Rattle.spec.specs.Book.{segmentCount, bodyTotal, entryCountAt, bodyLengthAt, lengthsBelow, bodyOffset, wholeLength, sizesAt, peerCount, entryEnd, entriesVerdict, bodyVerdict, _andThen_, bodiesVerdict, isLong, tooLong, verdict}
+use Rattle.spec.specs.Octets.{be16}
+use Rattle.spec.specs.Book.{segmentCount, headOffset, bodyTotal, entryCountAt, bodyLengthAt, lengthsBelow, bodyOffset, wholeLength, sizesAt, peerCount, entryEnd, entriesVerdict, bodyVerdict, _andThen_, bodiesVerdict, isLong, tooLong, verdict}
 use Rattle.spec.proofs.Membership.{not-both}
 use Rattle.spec.proofs.OnceLaws.{any-mem}
 use Rattle.spec.proofs.BookLaws.{passed, mem-range}
@@ -113,6 +114,26 @@ module _ (b : List ℕ) (n k : ℕ) where
   bodies-done h = let e : n - k ≡ 0 = omega arith in rw e
 
 -- ---- the heads
+
+pub heads-first : (b : List ℕ) → bodyOffset b 0 ≡ sizesSize + headSize * segmentCount b
+unfolding bodyOffset headOffset lengthsBelow
+heads-first b = omega arith
+
+pub heads-inside : (b : List ℕ) → Sized b → (k : ℕ) → k < segmentCount b → sizesSize + headSize * k + headSize ≤ length b
+unfolding bodyOffset headOffset
+heads-inside b s k h = let w = s .whole in omega arith
+
+pub pair-read : (b : List ℕ) (at : ℕ) {x y : ℕ} → x ≡ getD b at 0 → y ≡ getD b (at + 1) 0 → x * 2 ^ 8 + y ≡ be16 b at
+unfolding be16
+pair-read b at p q = ap₂ (λ u v. u * 2 ^ 8 + v) p q
+
+pub count-read : (b : List ℕ) (k : ℕ) → be16 b (sizesSize + headSize * k + 6) ≡ entryCountAt b k
+unfolding entryCountAt headOffset
+count-read b k = refl
+
+pub length-read : (b : List ℕ) (k : ℕ) → be16 b (sizesSize + headSize * k + 8) ≡ bodyLengthAt b k
+unfolding bodyLengthAt headOffset
+length-read b k = refl
 
 pub long-all : (b : List ℕ) (n : ℕ) → n ≡ segmentCount b → tooLong b ≡ any (isLong b) (range 0 (n - 0))
 unfolding tooLong

@@ -1,9 +1,42 @@
-// Numbers widened.
+// Numbers widened, and fields of heads that lie in the book, read with no test of its end.
 ghost use mathlib.Core.Path.{_≡_};
-ghost use Prim.Native.Nat.{_^_, _<_};
+ghost use Prim.Native.Nat.{_+_, _*_, _^_, _≤_, _<_};
+ghost use lib.ListN.{length};
+ghost use Rattle.spec.specs.Limits.{sizesSize, headSize};
+ghost use Rattle.spec.specs.Octets.{be16};
+ghost use Rattle.spec.specs.Book.{entryCountAt, bodyLengthAt};
+use spec::Head;
+use spec::Sizes;
 
 pub(crate) fn wide(x: u16) -> usize
     ensures { λ r. ⌜ (r ≡ x) × (r < 2 ^ 16) ⌝ }
 {
     x as usize
+}
+
+fn wide16(b: u8) -> u16
+    ensures { λ r. ⌜ (r ≡ b) × (r < 256) ⌝ }
+{
+    b as u16
+}
+
+fn pair(book: &[u8], at: usize) -> u16
+    requires { ⌜ at + 2 ≤ length (now book) ⌝ }
+    ensures { λ r. ⌜ r ≡ be16 (now (book .entry)) at ⌝ }
+{
+    wide16(book[at]) * 256 + wide16(book[at + 1])
+}
+
+pub(crate) fn count_within(book: &[u8], k: u8) -> u16
+    requires { ⌜ sizesSize + headSize * k + headSize ≤ length (now book) ⌝ }
+    ensures { λ r. ⌜ r ≡ entryCountAt (now (book .entry)) k ⌝ }
+{
+    pair(book, Sizes::SIZE + Head::SIZE * (k as usize) + 6)
+}
+
+pub(crate) fn length_within(book: &[u8], k: u8) -> u16
+    requires { ⌜ sizesSize + headSize * k + headSize ≤ length (now book) ⌝ }
+    ensures { λ r. ⌜ r ≡ bodyLengthAt (now (book .entry)) k ⌝ }
+{
+    pair(book, Sizes::SIZE + Head::SIZE * (k as usize) + 8)
 }

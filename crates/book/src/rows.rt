@@ -6,6 +6,8 @@ ghost use Rattle.spec.specs.Limits.{maxEntries};
 ghost use Rattle.spec.specs.Book.{segmentCount, entriesVerdict, bodiesVerdict};
 ghost use Rattle.book.specs.Offsets.{noOffsets, withRow, offsetTable};
 ghost use Rattle.book.specs.Sizes.{Sized, Body};
+use crate::numbers::count_within;
+use crate::numbers::length_within;
 use crate::numbers::wide;
 use spec::AsEntry;
 use spec::Limits;
@@ -60,8 +62,8 @@ pub(crate) fn fill_rows(book: &[u8], table: &mut [u16; PLACES]) -> Verdict
     let mut at = segment::body_offset(book, 0);
     let mut k: u8 = 0;
     while k < count {
-        let end = at + wide(segment::body_length(book, k));
-        let n = wide(segment::entry_count(book, k));
+        let end = at + wide(length_within(book, k));
+        let n = wide(count_within(book, k));
         let v = fill_row(book, table, k, at, end, n);
         if let Verdict::Refused(_) = v {
             return v;

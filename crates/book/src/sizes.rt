@@ -1,7 +1,12 @@
 // The tests of a book before its bodies, in document 01's order.
 ghost use mathlib.Core.Path.{_≡_};
-ghost use Rattle.spec.specs.Book.{segmentCount, tooLong};
+ghost use Prim.Native.Nat.{_+_, _*_, _^_, _≤_, _<_};
+ghost use lib.ListN.{length};
+ghost use Rattle.spec.specs.Limits.{sizesSize, headSize};
+ghost use Rattle.spec.specs.Book.{segmentCount, bodyOffset, tooLong};
 ghost use Rattle.book.specs.Sizes.{sizesVerdict};
+use crate::numbers::count_within;
+use crate::numbers::length_within;
 use crate::numbers::wide;
 use spec::Limits;
 use spec::Refusal;
@@ -11,16 +16,33 @@ use spec::Verdict;
 // Some head has more entries than a segment may have.
 fn too_long(book: &[u8], count: u8) -> bool
     requires { ⌜ count ≡ segmentCount (now book) ⌝ }
+    requires { ⌜ sizesSize + headSize * count ≤ length (now book) ⌝ }
     ensures { λ r. ⌜ r ≡ tooLong (now (book .entry)) ⌝ }
 {
     let mut k: u8 = 0;
     while k < count {
-        if Limits::ENTRIES < wide(segment::entry_count(book, k)) {
+        if Limits::ENTRIES < wide(count_within(book, k)) {
             return true;
         }
         k += 1;
     }
     false
+}
+
+// Where the last body ends; the first starts at `start`.
+fn bodies_end(book: &[u8], start: usize, count: u8) -> usize
+    requires { ⌜ start ≡ bodyOffset (now book) 0 ⌝ }
+    requires { ⌜ start < 2 ^ 21 ⌝ }
+    requires { ⌜ sizesSize + headSize * count ≤ length (now book) ⌝ }
+    ensures { λ r. ⌜ r ≡ bodyOffset (now (book .entry)) count ⌝ }
+{
+    let mut at = start;
+    let mut k: u8 = 0;
+    while k < count {
+        at += wide(length_within(book, k));
+        k += 1;
+    }
+    at
 }
 
 // The answer about the sizes and the heads.
@@ -38,7 +60,8 @@ pub(crate) fn sizes_verdict(book: &[u8]) -> Verdict
     if Limits::SEGMENTS < all {
         return Verdict::Refused(Refusal::Crowded);
     }
-    let whole = segment::body_offset(book, 0) + segment::sizes(book).bodies as usize;
+    let start = segment::body_offset(book, 0);
+    let whole = start + segment::sizes(book).bodies as usize;
     if n < whole {
         return Verdict::Refused(Refusal::Cut);
     }
@@ -50,7 +73,7 @@ pub(crate) fn sizes_verdict(book: &[u8]) -> Verdict
         return Verdict::Refused(Refusal::Long);
     }
     // The bodies' lengths make up their total.
-    if segment::body_offset(book, count) != n {
+    if bodies_end(book, start, count) != n {
         return Verdict::Refused(Refusal::Misfit);
     }
     Verdict::Accepted

@@ -7,7 +7,7 @@ use Rattle.spec.specs.Book.{segmentCount, bodyOffset, bodiesVerdict}
 use Rattle.segment.proofs.Positions.{body-next}
 use Rattle.book.specs.Offsets.{rowsBelow}
 use Rattle.book.proofs.Tables.{rows-step, rows-all}
-use Rattle.book.proofs.Turns.{body-says, bodies-first, bodies-refused, bodies-next, bodies-done, body-fits, not-accepted}
+use Rattle.book.proofs.Turns.{heads-inside, body-says, bodies-first, bodies-refused, bodies-next, bodies-done, body-fits, not-accepted}
 use borrow.Author.Needs.{needs}
 use Rattle.book.proofs.rows.fill_rows.Statement.{statement}
 use Rattle.book.proofs.rows.fill_rows.Tie as tie
@@ -22,21 +22,27 @@ loop-holds : tie.Need-loop-holds Inv-loop μ-loop
 unfolding rowsBelow
 loop-holds c = (omega arith, omega arith, c .body-offset .ensures .0, c .before .before .before .pre .1, bodies-first _ _ 0 (c .before .segment-count .ensures .0))
 
+length-within-requires : tie.Need-length-within-requires Inv-loop μ-loop
+length-within-requires c κs = heads-inside _ (c .before .before .before .before .before .pre .0) _ (rw (c .before .before .before .segment-count .ensures .0) at (c .loop-test .taken))
+
+count-within-requires : tie.Need-count-within-requires Inv-loop μ-loop
+count-within-requires c κs = heads-inside _ (c .before .before .before .before .before .before .before .pre .0) _ (rw (c .before .before .before .before .before .segment-count .ensures .0) at (c .before .before .loop-test .taken))
+
 fill-row-requires : tie.Need-fill-row-requires Inv-loop μ-loop
-fill-row-requires c κs = body-fits _ (c .before .before .before .before .before .before .before .before .before .before .pre .0) _ (rw (c .before .before .before .before .before .before .before .before .segment-count .ensures .0) at (c .before .before .before .before .before .loop-test .taken)) (c .before .before .before .before .before .before .loop .inv .2) (c .before .before .before .wide .ensures .0 ∙ c .before .before .before .before .body-length .ensures) (c .before .wide2 .ensures .0 ∙ c .before .before .entry-count .ensures)
+fill-row-requires c κs = body-fits _ (c .before .before .before .before .before .before .before .before .before .before .pre .0) _ (rw (c .before .before .before .before .before .before .before .before .segment-count .ensures .0) at (c .before .before .before .before .before .loop-test .taken)) (c .before .before .before .before .before .before .loop .inv .2) (c .before .before .before .wide .ensures .0 ∙ c .before .before .before .before .length-within .ensures) (c .before .wide2 .ensures .0 ∙ c .before .before .count-within .ensures)
 
 returns : tie.Need-returns Inv-loop μ-loop
 returns c =
     let l = c .before .before .before .before .before .before .before .before .before in
     let e = c .enum-told .given .1 in
-    let says = body-says _ 0 _ (l .loop .inv .2) (c .before .before .before .before .before .before .wide .ensures .0 ∙ c .before .before .before .before .before .before .before .body-length .ensures) (c .before .before .before .before .wide2 .ensures .0 ∙ c .before .before .before .before .before .entry-count .ensures) (c .before .before .fill-row .ensures .0) in
+    let says = body-says _ 0 _ (l .loop .inv .2) (c .before .before .before .before .before .before .wide .ensures .0 ∙ c .before .before .before .before .before .before .before .length-within .ensures) (c .before .before .before .before .wide2 .ensures .0 ∙ c .before .before .before .before .before .count-within .ensures) (c .before .before .fill-row .ensures .0) in
     (sym (l .loop .inv .4 ∙ bodies-refused _ _ _ _ (c .before .before .before .before .before .before .before .before .loop-test .taken) (says ∙ e) ∙ sym e), λ q. not-accepted (sym e ∙ q))
 
 loop-again : tie.Need-loop-again Inv-loop μ-loop
 loop-again c =
     let l = c .before .before .before .before .before .before .before .before .before in
-    let size = c .before .before .before .before .before .before .wide .ensures .0 ∙ c .before .before .before .before .before .before .before .body-length .ensures in
-    let count = c .before .before .before .before .wide2 .ensures .0 ∙ c .before .before .before .before .before .entry-count .ensures in
+    let size = c .before .before .before .before .before .before .wide .ensures .0 ∙ c .before .before .before .before .before .before .before .length-within .ensures in
+    let count = c .before .before .before .before .wide2 .ensures .0 ∙ c .before .before .before .before .before .count-within .ensures in
     let e = c .enum-told2 .given .1 in
     let says = body-says _ 0 _ (l .loop .inv .2) size count (c .before .before .fill-row .ensures .0) in (
       omega arith,
@@ -61,10 +67,10 @@ fill-rows-spec =
     (λ c. search needs)
     (λ c κs. search needs)
     loop-holds
-    (λ c κs. search needs)
+    length-within-requires
     (λ c κs. search needs)
     (λ c. search needs)
-    (λ c κs. search needs)
+    count-within-requires
     (λ c κs. search needs)
     fill-row-requires
     (λ c. search needs)

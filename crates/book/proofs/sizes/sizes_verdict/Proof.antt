@@ -1,7 +1,8 @@
 -- `sizes_verdict` meets its contract: at each return, the tests on the way there are the definition's.
 -- Assumes nothing.
 use mathlib.Core.Path.{sym}
-use Rattle.book.proofs.Turns.{oversize, cut-sizes, crowded, cut, surplus, long, wrong-sum, right-sum}
+use native.Mathlib.Omega.{arith}
+use Rattle.book.proofs.Turns.{heads-first, oversize, cut-sizes, crowded, cut, surplus, long, wrong-sum, right-sum}
 use borrow.Author.Needs.{needs}
 use Rattle.book.proofs.sizes.sizes_verdict.Statement.{statement}
 use Rattle.book.proofs.sizes.sizes_verdict.Tie as tie
@@ -25,6 +26,12 @@ returns-5 c =
     let s = c .before .before .before .before .before in
     sym (surplus _ (s .before .before .before .if1 .left) (s .before .before .if2 .left) (s .before .segment-count .ensures .0) (s .if3 .left) (c .before .before .before .before .body-offset .ensures .0) (c .before .before .before .sizes .ensures) (c .before .if4 .left) (c .if5 .taken))
 
+too-long-requires : tie.Need-too-long-requires
+too-long-requires c κs = (omega arith, omega (arith, heads-first (c .before .before .before .before .before .before .before .before .before .before .args .book .now)))
+
+bodies-end-requires : tie.Need-bodies-end-requires
+bodies-end-requires c κs = (omega arith, (omega arith, omega (arith, heads-first (c .before .before .before .before .before .before .before .before .before .before .before .before .args .book .now))))
+
 returns-6 : tie.Need-returns-6
 returns-6 c =
     let t = c .before .before in
@@ -35,13 +42,13 @@ returns-7 : tie.Need-returns-7
 returns-7 c =
     let t = c .before .before .before .before in
     let s = t .before .before .before .before .before in
-    sym (wrong-sum _ (s .before .before .before .if1 .left) (s .before .before .if2 .left) (s .before .segment-count .ensures .0) (s .if3 .left) (t .before .before .before .before .body-offset .ensures .0) (t .before .before .before .sizes .ensures) (t .before .if4 .left) (t .if5 .left) (c .before .before .before .too-long .ensures) (c .before .before .if6 .left) (c .before .body-offset2 .ensures .0) (c .if7 .taken))
+    sym (wrong-sum _ (s .before .before .before .if1 .left) (s .before .before .if2 .left) (s .before .segment-count .ensures .0) (s .if3 .left) (t .before .before .before .before .body-offset .ensures .0) (t .before .before .before .sizes .ensures) (t .before .if4 .left) (t .if5 .left) (c .before .before .before .too-long .ensures) (c .before .before .if6 .left) (c .before .bodies-end .ensures) (c .if7 .taken))
 
 returns-8 : tie.Need-returns-8
 returns-8 c =
     let t = c .before .before .before .before in
     let s = t .before .before .before .before .before in
-    sym (right-sum _ (s .before .before .before .if1 .left) (s .before .before .if2 .left) (s .before .segment-count .ensures .0) (s .if3 .left) (t .before .before .before .before .body-offset .ensures .0) (t .before .before .before .sizes .ensures) (t .before .if4 .left) (t .if5 .left) (c .before .before .before .too-long .ensures) (c .before .before .if6 .left) (c .before .body-offset2 .ensures .0) (c .if7 .left))
+    sym (right-sum _ (s .before .before .before .if1 .left) (s .before .before .if2 .left) (s .before .segment-count .ensures .0) (s .if3 .left) (t .before .before .before .before .body-offset .ensures .0) (t .before .before .before .sizes .ensures) (t .before .if4 .left) (t .if5 .left) (c .before .before .before .too-long .ensures) (c .before .before .if6 .left) (c .before .bodies-end .ensures) (c .if7 .left))
 
 pub sizes-verdict-spec : {M : Type 1} → statement M
 sizes-verdict-spec =
@@ -58,8 +65,8 @@ sizes-verdict-spec =
     returns-4
     returns-5
     (λ c. search needs)
-    (λ c κs. search needs)
+    too-long-requires
     returns-6
-    (λ c κs. search needs)
+    bodies-end-requires
     returns-7
     returns-8)

@@ -18,13 +18,16 @@ abbrev μ-loop : tie.MeasureT-loop
 μ-loop book count k₀ k = count - k
 
 loop-holds : tie.Need-loop-holds Inv-loop μ-loop
-loop-holds c = (omega arith, long-all _ _ (c .before .pre))
+loop-holds c = (omega arith, long-all _ _ (c .before .pre .0))
+
+count-within-requires : tie.Need-count-within-requires Inv-loop μ-loop
+count-within-requires c κs = omega arith
 
 returns : tie.Need-returns Inv-loop μ-loop
-returns c = sym (c .before .before .before .before .loop .inv .1 ∙ any-here _ _ _ (c .before .before .before .loop-test .taken) (is-long _ _ (c .before .wide .ensures .0 ∙ c .before .before .entry-count .ensures) (c .if1 .taken)))
+returns c = sym (c .before .before .before .before .loop .inv .1 ∙ any-here _ _ _ (c .before .before .before .loop-test .taken) (is-long _ _ (c .before .wide .ensures .0 ∙ c .before .before .count-within .ensures) (c .if1 .taken)))
 
 loop-again : tie.Need-loop-again Inv-loop μ-loop
-loop-again c = (omega arith, c .before .before .before .before .loop .inv .1 ∙ any-next _ _ _ (c .before .before .before .loop-test .taken) (not-long _ _ (c .before .wide .ensures .0 ∙ c .before .before .entry-count .ensures) (c .if1 .left)))
+loop-again c = (omega arith, c .before .before .before .before .loop .inv .1 ∙ any-next _ _ _ (c .before .before .before .loop-test .taken) (not-long _ _ (c .before .wide .ensures .0 ∙ c .before .before .count-within .ensures) (c .if1 .left)))
 
 returns-2 : tie.Need-returns-2 Inv-loop μ-loop
 returns-2 c = sym (c .before .loop .inv .1 ∙ any-done _ _ _ (c .loop-test .left))
@@ -36,7 +39,7 @@ too-long-spec =
     Inv-loop
     μ-loop
     loop-holds
-    (λ c κs. search needs)
+    count-within-requires
     (λ c κs. search needs)
     returns
     (λ c. search needs)
