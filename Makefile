@@ -1,7 +1,7 @@
 # make lib        proves crate combinator and writes build/libcombinator.a
 # make run        prints the list of the worked example
 # make test       the gate
-# make compare    the library against the Rust, on generated books (oracle/README.md)
+# make compare    the library against the Rust, on generated books (oracle/README.md): COUNT=24000 SEED=1
 # make bench      times of the library and of the Rust, on the same books
 # make scale      time against the size of a book
 # make fuzz       damaged books, records and lengths: SECONDS=30 SEED=1
@@ -21,6 +21,7 @@ PACKAGEDIR = $(LIBDIR)/combinator
 PROGRAM_PREFIX =
 
 SECONDS = 30
+COUNT = 24000
 SEED = 1
 
 # The archive that the tests link; build/libmodel.a, the model in its place, tries the tests themselves.
@@ -58,7 +59,7 @@ test:
 	bash .ci/run
 
 compare:
-	tests/compare
+	tests/compare $(SEED) $(COUNT)
 
 bench:
 	tests/bench
