@@ -48,12 +48,6 @@ fn same_bool(a: bool, b: bool) -> bool
     if a { b } else { !b }
 }
 
-fn timestamp(book: &[u8], k: u8) -> u32
-    ensures { λ r. ⌜ r ≡ timestampAt (now (book .entry)) k ⌝ }
-{
-    octets::be32(book, Sizes::SIZE + Head::SIZE * (k as usize))
-}
-
 // The segments at j and k are of the same kind: cores come first.
 fn same_kind(book: &[u8], j: u8, k: u8) -> bool
     ensures { λ r. ⌜ r ≡ sameBool (ltb j (cores (now (book .entry)))) (ltb k (cores (now (book .entry)))) ⌝ }
@@ -98,7 +92,7 @@ fn same_rest(book: &[u8], j: u8, k: u8) -> bool
     requires { ⌜ idAt (now book) j ≡ idAt (now book) k ⌝ }
     ensures { λ r. ⌜ r ≡ sameSegment (segmentAt (now (book .entry)) j) (segmentAt (now (book .entry)) k) ⌝ }
 {
-    if timestamp(book, j) != timestamp(book, k) {
+    if segment::timestamp(book, j) != segment::timestamp(book, k) {
         return false;
     }
     if !same_kind(book, j, k) {
@@ -135,7 +129,7 @@ fn heads_within(n: usize, count: usize) -> usize
 fn key_of(book: &[u8], k: u8) -> u64
     ensures { λ r. ⌜ r ≡ keyAt (now (book .entry)) k ⌝ }
 {
-    long(timestamp(book, k)) * 65536 + short(segment::id(book, k))
+    long(segment::timestamp(book, k)) * 65536 + short(segment::id(book, k))
 }
 
 // The same of the head at `at`, which lies in the book.
