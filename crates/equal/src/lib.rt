@@ -6,7 +6,7 @@ ghost use lib.ListN.{length};
 ghost use lib.Dec.{ltb};
 ghost use Rattle.spec.specs.Limits.{sizesSize, headSize};
 ghost use Rattle.spec.specs.Octets.{be16, be32};
-ghost use Rattle.spec.specs.Book.{cores, timestampAt, idAt, segmentAt, segments};
+ghost use Rattle.spec.specs.Book.{cores, idAt, segmentAt, segments};
 ghost use Rattle.spec.specs.Edges.{sameBool, sameSegment, isFirst};
 ghost use Rattle.equal.specs.Same.{keyAt, sameParts};
 use spec::Head;

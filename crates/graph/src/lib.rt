@@ -1,7 +1,7 @@
 // The stored edges of a book, the chains of them and the list: what graph.rs calls the multigraph, worked
 // out of the book where it lies.
 ghost use mathlib.Core.Path.{_≡_};
-ghost use Prim.Native.Nat.{_*_, _/_, min};
+ghost use Prim.Native.Nat.{_*_, _/_};
 ghost use lib.ListN.{length};
 ghost use Rattle.sha256.specs.Message.{sha256};
 ghost use Rattle.spec.specs.Records.{slots};

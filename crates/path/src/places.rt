@@ -3,7 +3,7 @@ ghost use mathlib.Core.Path.{_≡_};
 ghost use Prim.Native.Nat.{_+_, _-_, _^_, _≤_, _<_};
 ghost use lib.ListN.{length};
 ghost use Rattle.spec.specs.declared.Verdict.the-variants.{Accepted};
-ghost use Rattle.spec.specs.Limits.{entrySize, maxEntries, maxPeers};
+ghost use Rattle.spec.specs.Limits.{entrySize, maxEntries};
 ghost use Rattle.spec.specs.Book.{verdict, macAt};
 ghost use Rattle.spec.specs.Assembly.{isPeerHop, segmentOf};
 ghost use Rattle.path.specs.Usable.{Ready, Usable};

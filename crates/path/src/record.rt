@@ -1,7 +1,7 @@
 // The record of a whole path: the edges of a chain one after the other.
 ghost use mathlib.Core.Path.{_≡_};
 ghost use mathlib.Core.List.{[], _∷_, _++_, map, flatMap};
-ghost use Prim.Native.Nat.{_+_, _*_, _^_, _≤_, _<_, min};
+ghost use Prim.Native.Nat.{_+_, _^_, _≤_, _<_, min};
 ghost use lib.ListN.{length};
 ghost use Rattle.spec.specs.Limits.{maxMtu, maxTime, pathSize};
 ghost use Rattle.spec.specs.Basics.{padded};
