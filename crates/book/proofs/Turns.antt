@@ -22,10 +22,10 @@ use Rattle.spec.specs.Book.{segmentCount, headOffset, bodyTotal, entryCountAt, 
 use Rattle.spec.proofs.Membership.{not-both}
 use Rattle.spec.proofs.OnceLaws.{any-mem}
 use Rattle.spec.proofs.BookLaws.{passed, mem-range}
-use Rattle.segment.proofs.Positions.{one-less, body-more}
+use Rattle.segment.proofs.Positions.{one-less, body-more, any-done}
 use Rattle.segment.proofs.Fields.{total-read}
 use Rattle.segment.proofs.Fitting.{end-is}
-use Rattle.book.specs.Sizes.{sizesVerdict, Sized, Body}
+use Rattle.book.specs.Sizes.{sizesVerdict, Sized, Fronted, Body}
 
 -- ---- the entries of a body
 
@@ -285,6 +285,37 @@ module _ (b : List ℕ) (z : Sized b) (k : ℕ) (h : k < segmentCount b) where
         inside = omega (arith, offset-up b (k + 1) (segmentCount b) (omega arith), body-more b k, z .whole);
         small = z .small;
       }
+
+-- ---- the one pass
+
+pub front : (b : List ℕ) → length b ≤ maxBook → {all : ℕ} → all ≡ segmentCount b → all ≤ maxSegments → {sizes : Sizes} → sizes ≡ sizesAt b
+    → sizesSize + headSize * all + sizes .bodies ≡ length b → Fronted b all (sizesSize + headSize * all)
+front b small {all} ea crowd es l =
+    let first : sizesSize + headSize * all ≡ bodyOffset b 0 = omega (arith, heads-first b) in
+    record { small = small; crowd = crowd; all = ea; first = first; whole = sym (whole-is b first es) ∙ l }
+
+module _ (b : List ℕ) {n start : ℕ} (z : Fronted b n start) where
+  pub front-starts : start ≤ length b
+  unfolding wholeLength headOffset
+  front-starts = omega (arith, z .first, z .whole, z .all, heads-first b)
+
+  pub front-heads : (k : ℕ) → k < n → sizesSize + headSize * k + headSize ≤ length b
+  front-heads k h = omega (arith, z .first, z .all, heads-first b, front-starts)
+
+  pub front-body : (k : ℕ) → k < n → {count at end : ℕ} → count ≤ maxEntries → at ≤ end → end ≤ length b → Body b k at end count
+  front-body k h few up l = record { position = omega (arith, z .crowd); entries = few; filled = up; inside = l; small = z .small }
+
+  -- every head and every body passed, and the last body ends where the book does
+  module _ {k at : ℕ} (done : n ≤ k) (last : k ≤ n) (ea : at ≡ bodyOffset b k) (full : at ≡ length b) where
+    passed-sizes : tooLong b ≡ any (isLong b) (range k (n - k)) → sizesVerdict b ≡ Accepted
+    unfolding sizesVerdict
+    passed-sizes t =
+        let e : k ≡ segmentCount b = omega (arith, z .all) in
+        let begun : sizesSize ≤ length b = omega (arith, z .first, heads-first b, front-starts) in
+        rw (le-ltb maxBook (length b) (z .small), le-ltb (length b) sizesSize begun, le-ltb maxSegments (segmentCount b) (omega (arith, z .crowd, z .all)), z .whole, le-ltb (length b) (length b) (omega arith), t ∙ any-done (isLong b) n k done, eq-eqb (lengthsBelow b (segmentCount b)) (bodyTotal b) (sum-right b (segmentCount b) (z .whole) (sym (ap (bodyOffset b) e) ∙ sym ea ∙ full)))
+
+    pub passed-book : tooLong b ≡ any (isLong b) (range k (n - k)) → bodiesVerdict b 0 (segmentCount b) ≡ bodiesVerdict b k (n - k) → verdict b ≡ Accepted
+    passed-book t v = sym (by-bodies b refl (passed-sizes t) (sym (v ∙ bodies-done b n k done)))
 
 pub not-accepted : {A : Type 0} {r : Refusal} → Refused r ≡ Accepted → A
 not-accepted q = let z : _≡_ {A = ℕ} 0 1 = cc in absurd (omega arith)

@@ -32,7 +32,15 @@ pub record Sized (b : List ℕ) : Type 0 where
   pub short : tooLong b ≡ false
   pub whole : bodyOffset b (segmentCount b) ≡ length b
 
--- a body of such a book: its position, its ends and its number of entries
+-- a book with `count` segments whose first body starts at `start`, and which is as long as its sizes ask for
+pub record Fronted (b : List ℕ) (count start : ℕ) : Type 0 where
+  pub small : length b ≤ maxBook
+  pub crowd : count ≤ maxSegments
+  pub all : count ≡ segmentCount b
+  pub first : start ≡ bodyOffset b 0
+  pub whole : wholeLength b ≡ length b
+
+-- a body of a book of sizes that fit: its position, its ends and its number of entries
 pub record Body (b : List ℕ) (k start end count : ℕ) : Type 0 where
   pub position : k < maxSegments
   pub entries : count ≤ maxEntries

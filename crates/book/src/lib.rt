@@ -2,6 +2,7 @@
 // answers for any bytes: what lies past the book's end reads as 0.
 mod answer;
 mod numbers;
+mod once;
 mod rows;
 mod sizes;
 

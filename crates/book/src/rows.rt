@@ -19,7 +19,7 @@ use spec::Verdict;
 pub const PLACES: usize = Limits::SEGMENTS * Limits::ENTRIES;
 
 // The `count` entries of the body from `start` to `end`: tests them, and stores their offsets in row k.
-fn fill_row(
+pub(crate) fn fill_row(
     book: &[u8],
     table: &mut [u16; PLACES],
     k: u8,

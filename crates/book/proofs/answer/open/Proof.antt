@@ -1,44 +1,29 @@
--- `open` meets its contract: the sizes, then the bodies; a refused book leaves zeros.
+-- `open` meets its contract: what the one pass accepts is accepted, and of the rest the tests in their order answer.
 -- Assumes nothing.
 use mathlib.Core.Path.{refl, sym, _∙_}
 use Rattle.book.specs.Offsets.{noOffsets}
-use Rattle.book.proofs.Tables.{open-refused, open-accepted}
-use Rattle.book.proofs.Turns.{by-sizes, by-bodies, sized-book}
+use Rattle.book.proofs.Tables.{open-accepted}
 use borrow.Author.Needs.{needs}
 use Rattle.book.proofs.answer.open.Statement.{statement}
 use Rattle.book.proofs.answer.open.Tie as tie
 
-returns : tie.Need-returns
+quick-requires : tie.Need-quick-requires
 unfolding noOffsets
-returns c =
-    let p = by-sizes _ (c .before .before .sizes-verdict .ensures) (c .enum-told .given .1) in
-    (p, open-refused _ p (c .enum-told .given .1))
+quick-requires c κs = refl
 
-fill-rows-requires : tie.Need-fill-rows-requires
-unfolding noOffsets
-fill-rows-requires c κs = (sized-book _ (c .before .before .before .sizes-verdict .ensures) (c .before .enum-told2 .given .1), refl)
+returns : tie.Need-returns
+returns c =
+    let q = c .before .quick .ensures (c .if1 .taken) in
+    (sym (q .0), q .1 ∙ sym (open-accepted _ (sym (q .0)) refl))
 
 returns-2 : tie.Need-returns-2
-unfolding noOffsets
-returns-2 c =
-    let p = by-bodies _ (c .before .before .before .before .before .before .sizes-verdict .ensures) (c .before .before .before .before .enum-told2 .given .1) (c .before .before .fill-rows .ensures .0) in
-    (p, open-refused _ p (c .enum-told3 .given .1))
-
-returns-3 : tie.Need-returns-3
-returns-3 c =
-    let p = by-bodies _ (c .before .before .before .before .before .before .sizes-verdict .ensures) (c .before .before .before .before .enum-told2 .given .1) (c .before .before .fill-rows .ensures .0) in
-    (p, c .before .before .fill-rows .ensures .1 (c .enum-told4 .given .1) ∙ sym (open-accepted _ p (c .enum-told4 .given .1)))
+returns-2 c = c .open-slowly .ensures
 
 pub open-spec : {M : Type 1} → statement M
 open-spec =
     tie.close
     (tie.spec
-    (λ c κs. search needs)
-    (λ c. search needs)
+    quick-requires
     returns
-    (λ c. search needs)
-    fill-rows-requires
-    (λ c. search needs)
-    returns-2
-    (λ c. search needs)
-    returns-3)
+    (λ c κs. search needs)
+    returns-2)
