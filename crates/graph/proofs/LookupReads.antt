@@ -72,7 +72,7 @@ module _ (b t : List ℕ) (r : Ready b t) (k : ℕ) (h : k < segmentCount b) whe
     below = omega (arith, count-read b k)
 
     -- where the table says that the entry starts
-    place : getD t (maxEntries * k + i) 0 ≡ entryOffset b (bodyOffset b k) i
+    pub place : getD t (maxEntries * k + i) 0 ≡ entryOffset b (bodyOffset b k) i
     place = ap (λ u. getD u (maxEntries * k + i) 0) (r .table) ∙ table-at b book k i h below
 
     -- its bytes lie within the book

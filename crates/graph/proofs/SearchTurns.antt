@@ -19,6 +19,7 @@ use Rattle.graph.specs.declared.Found.the-variants.{Edge as FoundEdge, N
 use Rattle.graph.specs.Lookup.{between, leavingOf, foundEdges}
 use Rattle.graph.specs.Leaving.{entryCount, peerCountOf, asUp, peerUp, upsAt, leavingIn}
 use Rattle.graph.specs.Scan.{hasAs}
+use Rattle.graph.specs.Firsts.{firstAt}
 use Rattle.graph.specs.Prepared.{classOf}
 use Rattle.graph.specs.Search.{overFirsts, pair, triple, pairsIn, triplesIn, acrossWith, chainsWith, chainsFrom, chainsIn, foundChains}
 use Rattle.spec.proofs.Lists.{flatMap-append}
@@ -64,14 +65,23 @@ module _ (b : List ℕ) (dst : IsdAsn) (k : ℕ) {x : ℕ} (class : x ≡ classO
       go true q = omega arith
       go false q = omega arith
 
-module _ (b : List ℕ) (dst : IsdAsn) (k : ℕ) {t : Bool} (first : t ≡ isFirst (segments b) (segmentAt b k)) where
-  pub class-other : t ≡ false → 0 ≡ classOf b dst k
-  unfolding classOf
-  class-other p = sym (ap (λ x. if x then (if hasAs (segmentAt b k) dst then 2 else 1) else 0) (sym first ∙ p))
+-- from the byte that tells the first of equals
+module _ (b : List ℕ) (dst : IsdAsn) (k : ℕ) {x : ℕ} (first : x ≡ firstAt b k) where
+  pub class-other : x ≡ 0 → 0 ≡ classOf b dst k
+  unfolding classOf firstAt
+  class-other z = go (isFirst (segments b) (segmentAt b k)) first
+    where
+      go : (t : Bool) → x ≡ (if t then 1 else 0) → _≡_ {A = ℕ} 0 (if t then (if hasAs (segmentAt b k) dst then 2 else 1) else 0)
+      go true q = absurd (omega arith)
+      go false q = refl
 
-  pub class-by : {u : Bool} → t ≡ true → u ≡ hasAs (segmentAt b k) dst → (if u then 2 else 1) ≡ classOf b dst k
-  unfolding classOf
-  class-by p q = sym (ap₂ (λ x y. if x then (if y then 2 else 1) else 0) (sym first ∙ p) (sym q))
+  pub class-by : {u : Bool} → (x ≡ 0 → ⊥) → u ≡ hasAs (segmentAt b k) dst → (if u then 2 else 1) ≡ classOf b dst k
+  unfolding classOf firstAt
+  class-by {u} d p = go (isFirst (segments b) (segmentAt b k)) first
+    where
+      go : (t : Bool) → x ≡ (if t then 1 else 0) → _≡_ {A = ℕ} (if u then 2 else 1) (if t then (if hasAs (segmentAt b k) dst then 2 else 1) else 0)
+      go true q = ap (λ y. if y then 2 else 1) p
+      go false q = absurd (d q)
 
 -- ---- what is found
 

@@ -2,6 +2,7 @@ pub mod Lookup
 pub mod Leaving
 pub mod Scan
 pub mod Ready
+pub mod Firsts
 pub mod Link
 pub mod Prepared
 pub mod Search

@@ -108,7 +108,7 @@ pub(crate) fn same_vertex(v: Vertex, w: Vertex) -> bool
 
 // ---- numbers that lie within the book
 
-fn wide16(x: u8) -> u16
+pub(crate) fn wide16(x: u8) -> u16
     ensures { λ r. ⌜ (r ≡ x) × (r < 256) ⌝ }
 {
     x as u16
@@ -171,7 +171,7 @@ pub(crate) fn entry_count(book: &[u8], k: u8) -> usize
 const COUNT: usize = Sizes::SIZE + 7;
 
 // The same in an accepted book, where it fits its low byte.
-fn count_of(book: &[u8], k: u8) -> u8
+pub(crate) fn count_of(book: &[u8], k: u8) -> u8
     requires { ⌜ verdict (now book) ≡ Accepted ⌝ }
     requires { ⌜ k < segmentCount (now book) ⌝ }
     ensures { λ r. ⌜ (r ≡ entryCount (segmentAt (now (book .entry)) k)) × (r ≤ maxEntries) ⌝ }
@@ -186,7 +186,7 @@ fn wide(x: u16) -> usize
 }
 
 // Where entry i of the segment at position k starts.
-fn offset_at(table: &[u16; PLACES], k: u8, i: u8) -> usize
+pub(crate) fn offset_at(table: &[u16; PLACES], k: u8, i: u8) -> usize
     requires { ⌜ k < maxSegments ⌝ }
     requires { ⌜ i < maxEntries ⌝ }
     ensures { λ r. ⌜ (r ≡ getD (now (table .entry)) (maxEntries * k + i) 0) × (r < 2 ^ 16) ⌝ }
