@@ -3,6 +3,7 @@ pub mod LookupLaws
 pub mod LeavingLaws
 pub mod LookupReads
 pub mod FirstsLaws
+pub mod JointLaws
 pub mod IdentityLaws
 pub mod SearchLists
 pub mod SearchLaws

@@ -4,6 +4,7 @@ pub mod Scan
 pub mod Ready
 pub mod Firsts
 pub mod Link
+pub mod Joint
 pub mod Prepared
 pub mod Search
 pub mod Pushed

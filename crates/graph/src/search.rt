@@ -59,14 +59,11 @@ fn triple_in(
 {
     let from = f.dst;
     let dst = q.dst;
-    if !edges::may_join(book, table, k, from, dst) {
+    let j = edges::joint_of(book, table, k, from, dst);
+    if !j.found {
         return n;
     }
-    let found = edges::between(book, table, k, from, dst);
-    match found {
-        Found::Edge(g) => slots::push_three(out, q.slots, n, e, f, g),
-        Found::Nothing => n,
-    }
+    slots::push_three(out, q.slots, n, e, f, edges::edge_at(k, from, dst, j))
 }
 
 fn triples(
@@ -190,14 +187,11 @@ fn pair_in(
 {
     let from = e.dst;
     let dst = q.dst;
-    if !edges::may_join(book, table, k, from, dst) {
+    let j = edges::joint_of(book, table, k, from, dst);
+    if !j.found {
         return n;
     }
-    let found = edges::between(book, table, k, from, dst);
-    match found {
-        Found::Edge(f) => slots::push_two(out, q.slots, n, e, f),
-        Found::Nothing => n,
-    }
+    slots::push_two(out, q.slots, n, e, edges::edge_at(k, from, dst, j))
 }
 
 fn pairs(
