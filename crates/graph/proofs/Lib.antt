@@ -2,6 +2,8 @@ pub mod LookupScan
 pub mod LookupLaws
 pub mod LeavingLaws
 pub mod LookupReads
+pub mod FirstsLaws
+pub mod JointLaws
 pub mod IdentityLaws
 pub mod SearchLists
 pub mod SearchLaws

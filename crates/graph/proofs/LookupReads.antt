@@ -38,7 +38,7 @@ use Rattle.graph.specs.Scan.{joins, firstWith, lastWith, entryWith, hasA
 use Rattle.graph.specs.Ready.{Ready, Filled}
 use Rattle.graph.specs.Link.{endOf, samePeer}
 use Rattle.graph.proofs.LookupScan.{when, any-first, first-passes, is-last}
-use Rattle.graph.proofs.LookupLaws.{up-as, down-as, down-link, no-leaf, core-as, core-peering, core-leaving, none-stored, as-eq, eq-sameAs, as-not-peering}
+use Rattle.graph.proofs.LookupLaws.{up-as, down-as, down-link, no-leaf, core-as, core-peering, core-leaving, none-stored, as-eq, eq-sameAs}
 use Rattle.graph.proofs.LeavingLaws.{linked, peer-last, link-own}
 
 -- what `book::open` leaves of an accepted book
@@ -72,7 +72,7 @@ module _ (b t : List ℕ) (r : Ready b t) (k : ℕ) (h : k < segmentCount b) whe
     below = omega (arith, count-read b k)
 
     -- where the table says that the entry starts
-    place : getD t (maxEntries * k + i) 0 ≡ entryOffset b (bodyOffset b k) i
+    pub place : getD t (maxEntries * k + i) 0 ≡ entryOffset b (bodyOffset b k) i
     place = ap (λ u. getD u (maxEntries * k + i) 0) (r .table) ∙ table-at b book k i h below
 
     -- its bytes lie within the book
@@ -415,32 +415,6 @@ module _ (seg : Segment) {n : ℕ} (count : n ≡ entryCount seg) (none : n ≡ 
   pub empty-between : (v w : Vertex) → [] ≡ between seg v w
   unfolding between
   empty-between v w = sym (ap (filter (hasEnds v w)) (none-stored seg (sym count ∙ none)) ∙ unfold filter in refl)
-
--- ---- a look at the leaf: no edge from a vertex to an AS
-
-module _ (seg : Segment) (nc : seg .core ≡ false) {n : ℕ} (count : n ≡ entryCount seg) (v : Vertex) (w : IsdAsn) where
-  past-none : (a : IsdAsn) {i : ℕ} → i ≡ entryWith seg a (n - 1) → ltb i (n - 1) ≡ false → asEdgeAt seg v (AS w) (entryWith seg a (n - 1)) ≡ []
-  past-none a {i} found none = let h : n - 1 ≤ i = ltb-false i (n - 1) none in sym (as-past seg v (AS w) (entryWith seg a (n - 1)) (omega arith))
-
-  module _ {leaf : IsdAsn} (last : leaf ≡ asOf seg (n - 1)) where
-    at-leaf : (a : IsdAsn) {u t : Bool} → u ≡ sameAs leaf a → u ≡ t → sameAs (leafAs seg) a ≡ t
-    at-leaf a p q = ap (λ x. sameAs x a) (sym (leaf-read seg count last)) ∙ sym p ∙ q
-
-    pub join-peering : {l p : IsdAsn} {i j : ℕ} {u : Bool} → v ≡ Peering l i p j → u ≡ sameAs leaf w → u ≡ false → between seg v (AS w) ≡ []
-    join-peering at p q = sym (from-none seg w nc n count (at-leaf w p q) v (λ e. as-not-peering (e ∙ at)))
-
-    module _ {a : IsdAsn} (at : v ≡ AS a) {u : Bool} (test : u ≡ sameAs leaf w) where
-      pub join-to : u ≡ true → {i : ℕ} → i ≡ entryWith seg a (n - 1) → ltb i (n - 1) ≡ false → between seg v (AS w) ≡ []
-      join-to q found none = sym (to-as seg w nc n count (at-leaf w test q) v a at) ∙ past-none a found none
-
-      pub join-from : u ≡ false → {t : Bool} → t ≡ sameAs leaf a → t ≡ true → {i : ℕ} → i ≡ entryWith seg w (n - 1) → ltb i (n - 1) ≡ false
-          → between seg v (AS w) ≡ []
-      join-from q p s found none =
-          sym (from-as seg w nc n count (at-leaf w test q) v (at ∙ ap AS (sym (sameAs-eq _ _ (at-leaf a p s))))) ∙ past-none w found none
-
-      pub join-none : u ≡ false → {t : Bool} → t ≡ sameAs leaf a → t ≡ false → between seg v (AS w) ≡ []
-      join-none q p s =
-          sym (from-none seg w nc n count (at-leaf w test q) v (λ e. not-both (eq-sameAs _ _ (as-eq (e ∙ at))) (at-leaf a p s)))
 
 -- ---- an AS that no entry of a non-core segment has
 

@@ -19,6 +19,7 @@ use Rattle.graph.specs.declared.Found.the-variants.{Edge as FoundEdge, N
 use Rattle.graph.specs.Lookup.{between, leavingOf, foundEdges}
 use Rattle.graph.specs.Leaving.{entryCount, peerCountOf, asUp, peerUp, upsAt, leavingIn}
 use Rattle.graph.specs.Scan.{hasAs}
+use Rattle.graph.specs.Firsts.{firstAt}
 use Rattle.graph.specs.Prepared.{classOf}
 use Rattle.graph.specs.Search.{overFirsts, pair, triple, pairsIn, triplesIn, acrossWith, chainsWith, chainsFrom, chainsIn, foundChains}
 use Rattle.spec.proofs.Lists.{flatMap-append}
@@ -64,14 +65,23 @@ module _ (b : List ℕ) (dst : IsdAsn) (k : ℕ) {x : ℕ} (class : x ≡ classO
       go true q = omega arith
       go false q = omega arith
 
-module _ (b : List ℕ) (dst : IsdAsn) (k : ℕ) {t : Bool} (first : t ≡ isFirst (segments b) (segmentAt b k)) where
-  pub class-other : t ≡ false → 0 ≡ classOf b dst k
-  unfolding classOf
-  class-other p = sym (ap (λ x. if x then (if hasAs (segmentAt b k) dst then 2 else 1) else 0) (sym first ∙ p))
+-- from the byte that tells the first of equals
+module _ (b : List ℕ) (dst : IsdAsn) (k : ℕ) {x : ℕ} (first : x ≡ firstAt b k) where
+  pub class-other : x ≡ 0 → 0 ≡ classOf b dst k
+  unfolding classOf firstAt
+  class-other z = go (isFirst (segments b) (segmentAt b k)) first
+    where
+      go : (t : Bool) → x ≡ (if t then 1 else 0) → _≡_ {A = ℕ} 0 (if t then (if hasAs (segmentAt b k) dst then 2 else 1) else 0)
+      go true q = absurd (omega arith)
+      go false q = refl
 
-  pub class-by : {u : Bool} → t ≡ true → u ≡ hasAs (segmentAt b k) dst → (if u then 2 else 1) ≡ classOf b dst k
-  unfolding classOf
-  class-by p q = sym (ap₂ (λ x y. if x then (if y then 2 else 1) else 0) (sym first ∙ p) (sym q))
+  pub class-by : {u : Bool} → (x ≡ 0 → ⊥) → u ≡ hasAs (segmentAt b k) dst → (if u then 2 else 1) ≡ classOf b dst k
+  unfolding classOf firstAt
+  class-by {u} d p = go (isFirst (segments b) (segmentAt b k)) first
+    where
+      go : (t : Bool) → x ≡ (if t then 1 else 0) → _≡_ {A = ℕ} (if u then 2 else 1) (if t then (if hasAs (segmentAt b k) dst then 2 else 1) else 0)
+      go true q = ap (λ y. if y then 2 else 1) p
+      go false q = absurd (d q)
 
 -- ---- what is found
 
@@ -88,20 +98,16 @@ module _ (b : List ℕ) (dst : IsdAsn) (e : Edge) (k : ℕ) where
   unfolding triplesIn
   triples-other f h = ap (λ t. if t then [] else map (triple b dst e f) (between (segmentAt b k) (f .dst) (AS dst))) (other-at b k h)
 
-  pub triple-found : (f : Edge) (r : Found) (g : Edge) → cores b ≤ k → foundEdges r ≡ between (segmentAt b k) (f .dst) (AS dst) → r ≡ FoundEdge g
+  pub triple-found : (f : Edge) {g : Edge} → cores b ≤ k → (g ∷ []) ≡ between (segmentAt b k) (f .dst) (AS dst)
       → triplesIn b dst e f (segmentAt b k) ≡ (e ∷ f ∷ g ∷ []) ∷ []
   unfolding triple
-  triple-found f r g h p q = triples-other f h ∙ ap (map (triple b dst e f)) (found-edge r _ g p q)
+  triple-found f h q = triples-other f h ∙ sym (ap (map (triple b dst e f)) q)
 
-  pub triple-empty : (f : Edge) → cores b ≤ k → between (segmentAt b k) (f .dst) (AS dst) ≡ [] → triplesIn b dst e f (segmentAt b k) ≡ []
-  triple-empty f h q = triples-other f h ∙ ap (map (triple b dst e f)) q
-
-  pub triple-nothing : (f : Edge) (r : Found) → cores b ≤ k → foundEdges r ≡ between (segmentAt b k) (f .dst) (AS dst) → r ≡ Nothing
-      → triplesIn b dst e f (segmentAt b k) ≡ []
-  triple-nothing f r h p q = triple-empty f h (found-nothing r _ p q)
+  pub triple-empty : (f : Edge) → cores b ≤ k → [] ≡ between (segmentAt b k) (f .dst) (AS dst) → triplesIn b dst e f (segmentAt b k) ≡ []
+  triple-empty f h q = triples-other f h ∙ sym (ap (map (triple b dst e f)) q)
 
   pub triple-none : (f : Edge) → cores b ≤ k → hasAs (segmentAt b k) dst ≡ false → triplesIn b dst e f (segmentAt b k) ≡ []
-  triple-none f h q = triple-empty f h (none-arrives (segmentAt b k) (other-at b k h) dst q (f .dst))
+  triple-none f h q = triple-empty f h (sym (none-arrives (segmentAt b k) (other-at b k h) dst q (f .dst)))
 
   pairs-other : cores b ≤ k → chainsWith b dst e (segmentAt b k) ≡ map (pair b dst e) (between (segmentAt b k) (e .dst) (AS dst))
   unfolding chainsWith pairsIn
@@ -109,20 +115,15 @@ module _ (b : List ℕ) (dst : IsdAsn) (e : Edge) (k : ℕ) where
       ap (λ t. if t then (if e .core then [] else flatMap (acrossWith b dst e) (leavingOf (e .dst) (segmentAt b k)))
       else map (pair b dst e) (between (segmentAt b k) (e .dst) (AS dst))) (other-at b k h)
 
-  pub pair-found : (r : Found) (f : Edge) → cores b ≤ k → foundEdges r ≡ between (segmentAt b k) (e .dst) (AS dst) → r ≡ FoundEdge f
-      → chainsWith b dst e (segmentAt b k) ≡ (e ∷ f ∷ []) ∷ []
+  pub pair-found : {f : Edge} → cores b ≤ k → (f ∷ []) ≡ between (segmentAt b k) (e .dst) (AS dst) → chainsWith b dst e (segmentAt b k) ≡ (e ∷ f ∷ []) ∷ []
   unfolding pair
-  pair-found r f h p q = pairs-other h ∙ ap (map (pair b dst e)) (found-edge r _ f p q)
+  pair-found h q = pairs-other h ∙ sym (ap (map (pair b dst e)) q)
 
-  pub pair-empty : cores b ≤ k → between (segmentAt b k) (e .dst) (AS dst) ≡ [] → chainsWith b dst e (segmentAt b k) ≡ []
-  pair-empty h q = pairs-other h ∙ ap (map (pair b dst e)) q
-
-  pub pair-nothing : (r : Found) → cores b ≤ k → foundEdges r ≡ between (segmentAt b k) (e .dst) (AS dst) → r ≡ Nothing
-      → chainsWith b dst e (segmentAt b k) ≡ []
-  pair-nothing r h p q = pair-empty h (found-nothing r _ p q)
+  pub pair-empty : cores b ≤ k → [] ≡ between (segmentAt b k) (e .dst) (AS dst) → chainsWith b dst e (segmentAt b k) ≡ []
+  pair-empty h q = pairs-other h ∙ sym (ap (map (pair b dst e)) q)
 
   pub pair-none : cores b ≤ k → hasAs (segmentAt b k) dst ≡ false → chainsWith b dst e (segmentAt b k) ≡ []
-  pair-none h q = pair-empty h (none-arrives (segmentAt b k) (other-at b k h) dst q (e .dst))
+  pair-none h q = pair-empty h (sym (none-arrives (segmentAt b k) (other-at b k h) dst q (e .dst)))
 
   across-core : k < cores b → e .core ≡ false → chainsWith b dst e (segmentAt b k) ≡ flatMap (acrossWith b dst e) (leavingOf (e .dst) (segmentAt b k))
   unfolding chainsWith

@@ -2,7 +2,9 @@ pub mod Lookup
 pub mod Leaving
 pub mod Scan
 pub mod Ready
+pub mod Firsts
 pub mod Link
+pub mod Joint
 pub mod Prepared
 pub mod Search
 pub mod Pushed

@@ -2,9 +2,10 @@
 // vertices, and what it stores that leaves one.
 ghost use mathlib.Core.Path.{_≡_};
 ghost use mathlib.Core.Bool.{true, false, _&&_};
-ghost use mathlib.Core.List.{[]};
 ghost use Prim.Native.Nat.{_+_, _*_, _-_, _^_, _≤_, _<_};
 ghost use lib.ListN.{length, getD};
+ghost use Rattle.spec.specs.declared.IsdAsn.{IsdAsn};
+ghost use Rattle.spec.specs.declared.Vertex.{Vertex};
 ghost use Rattle.spec.specs.declared.Vertex.the-variants.{AS};
 ghost use Rattle.spec.specs.declared.Verdict.the-variants.{Accepted};
 ghost use Rattle.spec.specs.Limits.{maxSegments, maxEntries, entrySize, peerSize};
@@ -15,6 +16,7 @@ ghost use Rattle.graph.specs.Lookup.{between, leavingOf, foundEdges};
 ghost use Rattle.graph.specs.Leaving.{entryCount, peerCountOf, linkOf, hasLink, asUp, peerUp};
 ghost use Rattle.graph.specs.Scan.{joins, entryWith, hasAs, entryLinked, peerLinked, asEdgeAt, downPeerEdge};
 ghost use Rattle.graph.specs.Link.{endOf, farEndOf, samePeer};
+ghost use Rattle.graph.specs.Joint.{jointEdge, jointEdges};
 ghost use Rattle.graph.specs.Ready.{Ready, Filled};
 ghost use Rattle.graph.specs.Identity.{sameIdentity, identified, asNamed, peerNamed, named};
 use crate::Found;
@@ -108,7 +110,7 @@ pub(crate) fn same_vertex(v: Vertex, w: Vertex) -> bool
 
 // ---- numbers that lie within the book
 
-fn wide16(x: u8) -> u16
+pub(crate) fn wide16(x: u8) -> u16
     ensures { λ r. ⌜ (r ≡ x) × (r < 256) ⌝ }
 {
     x as u16
@@ -171,7 +173,7 @@ pub(crate) fn entry_count(book: &[u8], k: u8) -> usize
 const COUNT: usize = Sizes::SIZE + 7;
 
 // The same in an accepted book, where it fits its low byte.
-fn count_of(book: &[u8], k: u8) -> u8
+pub(crate) fn count_of(book: &[u8], k: u8) -> u8
     requires { ⌜ verdict (now book) ≡ Accepted ⌝ }
     requires { ⌜ k < segmentCount (now book) ⌝ }
     ensures { λ r. ⌜ (r ≡ entryCount (segmentAt (now (book .entry)) k)) × (r ≤ maxEntries) ⌝ }
@@ -186,7 +188,7 @@ fn wide(x: u16) -> usize
 }
 
 // Where entry i of the segment at position k starts.
-fn offset_at(table: &[u16; PLACES], k: u8, i: u8) -> usize
+pub(crate) fn offset_at(table: &[u16; PLACES], k: u8, i: u8) -> usize
     requires { ⌜ k < maxSegments ⌝ }
     requires { ⌜ i < maxEntries ⌝ }
     ensures { λ r. ⌜ (r ≡ getD (now (table .entry)) (maxEntries * k + i) 0) × (r < 2 ^ 16) ⌝ }
@@ -358,98 +360,71 @@ fn link_at(book: &[u8], table: &[u16; PLACES], k: u8, i: u8, p: u8) -> Link
 
 // ---- between two vertices
 
-// The AS edge between two vertices, at the first entry below the leaf that has an AS.
-fn as_edge(
+// What of an edge to an AS of a non-core segment is not known before it is found.
+pub(crate) struct Joint {
+    pub found: bool,
+    pub construction: bool,
+    pub shortcut: u8,
+    pub peer: u8,
+    pub weight: u8,
+}
+
+fn no_joint() -> Joint
+    ensures { λ r. ⌜ r .found ≡ false ⌝ }
+{
+    Joint {
+        found: false,
+        construction: false,
+        shortcut: 0,
+        peer: 0,
+        weight: 0,
+    }
+}
+
+// The AS edge at the first entry below the leaf that has an AS.
+fn as_joint(
     book: &[u8],
     table: &[u16; PLACES],
     k: u8,
     n: u8,
     a: IsdAsn,
-    src: Vertex,
-    dst: Vertex,
     construction: bool,
-) -> Found
+) -> Joint
     requires { ⌜ Filled (now book) (now table) k n ⌝ }
     requires { ⌜ segmentAt (now book) k .core ≡ false ⌝ }
-    requires { ⌜ construction ≡ inConstruction (segmentAt (now book) k) dst ⌝ }
-    ensures { λ r. ⌜ foundEdges r ≡ asEdgeAt (segmentAt (now (book .entry)) k) src dst (entryWith (segmentAt (now (book .entry)) k) a (n - 1)) ⌝ }
+    ensures { λ r. ⌜ ((v : Vertex) (w : IsdAsn) → construction ≡ inConstruction (segmentAt (now (book .entry)) k) (AS w) → jointEdges k v w r ≡ asEdgeAt (segmentAt (now (book .entry)) k) v (AS w) (entryWith (segmentAt (now (book .entry)) k) a (n - 1))) ⌝ }
 {
     let i = find_as(book, table, k, a, n - 1);
-    if i < n - 1 {
-        return Found::Edge(Edge {
-            src: src,
-            dst: dst,
-            weight: n - 1 - i,
-            shortcut: i,
-            peer: 0,
-            position: k,
-            construction: construction,
-            core: false,
-        });
+    Joint {
+        found: i < n - 1,
+        construction: construction,
+        shortcut: i,
+        peer: 0,
+        weight: n - 1 - i,
     }
-    Found::Nothing
 }
 
 // The edge to the leaf from the other side of a link, at the first entry that has the link.
-fn link_edge(
-    book: &[u8],
-    table: &[u16; PLACES],
-    k: u8,
-    n: u8,
-    link: Link,
-    src: Vertex,
-    dst: Vertex,
-) -> Found
+fn link_joint(book: &[u8], table: &[u16; PLACES], k: u8, n: u8, link: Link) -> Joint
     requires { ⌜ Filled (now book) (now table) k n ⌝ }
     requires { ⌜ segmentAt (now book) k .core ≡ false ⌝ }
-    requires { ⌜ true ≡ inConstruction (segmentAt (now book) k) dst ⌝ }
-    ensures { λ r. ⌜ foundEdges r ≡ downPeerEdge (segmentAt (now (book .entry)) k) src dst (endOf link) ⌝ }
+    ensures { λ r. ⌜ ((v : Vertex) (w : IsdAsn) → true ≡ inConstruction (segmentAt (now (book .entry)) k) (AS w) → jointEdges k v w r ≡ downPeerEdge (segmentAt (now (book .entry)) k) v (AS w) (endOf link)) ⌝ }
 {
     let i = find_linked(book, table, k, link, n);
-    if i < n {
-        let q = find_peer(book, table, k, i, link);
-        return Found::Edge(Edge {
-            src: src,
-            dst: dst,
-            weight: n - 1 - i,
-            shortcut: i,
-            peer: q,
-            position: k,
-            construction: true,
-            core: false,
-        });
+    if n <= i {
+        return no_joint();
     }
-    Found::Nothing
-}
-
-// From a vertex to the leaf, whose AS is w.
-fn to_leaf(book: &[u8], table: &[u16; PLACES], k: u8, n: u8, v: Vertex, w: IsdAsn) -> Found
-    requires { ⌜ Filled (now book) (now table) k n ⌝ }
-    requires { ⌜ segmentAt (now book) k .core ≡ false ⌝ }
-    requires { ⌜ sameAs (leafAs (segmentAt (now book) k)) w ≡ true ⌝ }
-    ensures { λ r. ⌜ foundEdges r ≡ between (segmentAt (now (book .entry)) k) v (AS w) ⌝ }
-{
-    match v {
-        Vertex::AS(a) => as_edge(book, table, k, n, a, v, Vertex::AS(w), true),
-        Vertex::Peering {
-            local_ia: l,
-            local_ifid: i,
-            peer_ia: p,
-            peer_ifid: j,
-        } => {
-            let link = Link {
-                local: p,
-                ingress: j,
-                peer: l,
-                interface: i,
-            };
-            link_edge(book, table, k, n, link, v, Vertex::AS(w))
-        }
+    Joint {
+        found: true,
+        construction: true,
+        shortcut: i,
+        peer: find_peer(book, table, k, i, link),
+        weight: n - 1 - i,
     }
 }
 
-// From a vertex to an AS that is not the leaf's: only the leaf has such an edge.
-fn from_leaf(
+// From a vertex to an AS: one of the two is the leaf.
+fn leaf_joint(
     book: &[u8],
     table: &[u16; PLACES],
     k: u8,
@@ -457,17 +432,71 @@ fn from_leaf(
     leaf: IsdAsn,
     v: Vertex,
     w: IsdAsn,
-) -> Found
+) -> Joint
     requires { ⌜ Filled (now book) (now table) k n ⌝ }
     requires { ⌜ segmentAt (now book) k .core ≡ false ⌝ }
     requires { ⌜ leaf ≡ leafAs (segmentAt (now book) k) ⌝ }
-    requires { ⌜ sameAs leaf w ≡ false ⌝ }
-    ensures { λ r. ⌜ foundEdges r ≡ between (segmentAt (now (book .entry)) k) v (AS w) ⌝ }
+    ensures { λ r. ⌜ jointEdges k v w r ≡ between (segmentAt (now (book .entry)) k) v (AS w) ⌝ }
 {
-    if same_vertex(v, Vertex::AS(leaf)) {
-        return as_edge(book, table, k, n, w, v, Vertex::AS(w), false);
+    match v {
+        Vertex::AS(a) => {
+            if same_as(leaf, w) {
+                return as_joint(book, table, k, n, a, true);
+            }
+            if same_as(leaf, a) {
+                return as_joint(book, table, k, n, w, false);
+            }
+            no_joint()
+        }
+        Vertex::Peering {
+            local_ia: l,
+            local_ifid: i,
+            peer_ia: p,
+            peer_ifid: j,
+        } => {
+            if !same_as(leaf, w) {
+                return no_joint();
+            }
+            let link = Link {
+                local: p,
+                ingress: j,
+                peer: l,
+                interface: i,
+            };
+            link_joint(book, table, k, n, link)
+        }
     }
-    Found::Nothing
+}
+
+// The stored edge of a non-core segment from a vertex to an AS. Most segments are passed over after a look at the
+// leaf's AS, and what is answered is small.
+pub(crate) fn joint_of(book: &[u8], table: &[u16; PLACES], k: u8, v: Vertex, w: IsdAsn) -> Joint
+    requires { ⌜ Ready (now book) (now table) ⌝ }
+    requires { ⌜ k < segmentCount (now book) ⌝ }
+    requires { ⌜ segmentAt (now book) k .core ≡ false ⌝ }
+    ensures { λ r. ⌜ jointEdges k v w r ≡ between (segmentAt (now (book .entry)) k) v (AS w) ⌝ }
+{
+    let n = count_of(book, k);
+    if n == 0 {
+        return no_joint();
+    }
+    leaf_joint(book, table, k, n, as_at(book, table, k, n - 1), v, w)
+}
+
+// The whole edge.
+pub(crate) fn edge_at(k: u8, v: Vertex, w: IsdAsn, j: Joint) -> Edge
+    ensures { λ r. ⌜ r ≡ jointEdge k v w j ⌝ }
+{
+    Edge {
+        src: v,
+        dst: Vertex::AS(w),
+        weight: j.weight,
+        shortcut: j.shortcut,
+        peer: j.peer,
+        position: k,
+        construction: j.construction,
+        core: false,
+    }
 }
 
 fn both_same(a: IsdAsn, b: IsdAsn, c: IsdAsn, d: IsdAsn) -> bool
@@ -520,7 +549,7 @@ fn core_between(
     Found::Nothing
 }
 
-// The stored edge from a vertex to an AS. Most segments are passed over after a look at the leaf's AS.
+// The stored edge from a vertex to an AS.
 pub(crate) fn between(book: &[u8], table: &[u16; PLACES], k: u8, v: Vertex, w: IsdAsn) -> Found
     requires { ⌜ Ready (now book) (now table) ⌝ }
     requires { ⌜ k < segmentCount (now book) ⌝ }
@@ -534,35 +563,11 @@ pub(crate) fn between(book: &[u8], table: &[u16; PLACES], k: u8, v: Vertex, w: I
     if is_core(book, k) {
         return core_between(book, table, k, n, leaf, v, w);
     }
-    if same_as(leaf, w) {
-        return to_leaf(book, table, k, n, v, w);
+    let j = leaf_joint(book, table, k, n, leaf, v, w);
+    if j.found {
+        return Found::Edge(edge_at(k, v, w, j));
     }
-    from_leaf(book, table, k, n, leaf, v, w)
-}
-
-// A look before `between`: false where a non-core segment stores no edge from a vertex to an AS. Most store none, and
-// the look makes no answer to copy.
-pub(crate) fn may_join(book: &[u8], table: &[u16; PLACES], k: u8, v: Vertex, w: IsdAsn) -> bool
-    requires { ⌜ Ready (now book) (now table) ⌝ }
-    requires { ⌜ k < segmentCount (now book) ⌝ }
-    requires { ⌜ segmentAt (now book) k .core ≡ false ⌝ }
-    ensures { λ r. ⌜ (r ≡ false → between (segmentAt (now (book .entry)) k) v (AS w) ≡ []) ⌝ }
-{
-    let n = count_of(book, k);
-    if n == 0 {
-        return false;
-    }
-    let leaf = as_at(book, table, k, n - 1);
-    let Vertex::AS(a) = v else {
-        return same_as(leaf, w);
-    };
-    if same_as(leaf, w) {
-        return find_as(book, table, k, a, n - 1) < n - 1;
-    }
-    if same_as(leaf, a) {
-        return find_as(book, table, k, w, n - 1) < n - 1;
-    }
-    false
+    Found::Nothing
 }
 
 // ---- from a vertex

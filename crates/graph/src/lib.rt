@@ -10,6 +10,7 @@ ghost use Rattle.graph.specs.Ready.{Ready};
 
 mod chains;
 mod edges;
+mod firsts;
 mod search;
 mod slots;
 

@@ -13,10 +13,12 @@ ghost use Rattle.graph.specs.Leaving.{entryCount, peerCountOf, peerUp, u
 ghost use Rattle.graph.specs.Search.{overFirsts, chainsFrom, triplesIn, acrossWith, chainsWith, chainsIn, foundChains};
 ghost use Rattle.graph.specs.Pushed.{Room, Pushes};
 ghost use Rattle.graph.specs.Ready.{Ready};
+ghost use Rattle.graph.specs.Firsts.{firstAt};
 ghost use Rattle.graph.specs.Prepared.{classOf, Planned, Prepared};
 use crate::Found;
 use crate::edges;
 use crate::edges::PLACES;
+use crate::firsts;
 use crate::slots;
 use spec::Edge;
 use spec::IsdAsn;
@@ -57,14 +59,11 @@ fn triple_in(
 {
     let from = f.dst;
     let dst = q.dst;
-    if !edges::may_join(book, table, k, from, dst) {
+    let j = edges::joint_of(book, table, k, from, dst);
+    if !j.found {
         return n;
     }
-    let found = edges::between(book, table, k, from, dst);
-    match found {
-        Found::Edge(g) => slots::push_three(out, q.slots, n, e, f, g),
-        Found::Nothing => n,
-    }
+    slots::push_three(out, q.slots, n, e, f, edges::edge_at(k, from, dst, j))
 }
 
 fn triples(
@@ -188,14 +187,11 @@ fn pair_in(
 {
     let from = e.dst;
     let dst = q.dst;
-    if !edges::may_join(book, table, k, from, dst) {
+    let j = edges::joint_of(book, table, k, from, dst);
+    if !j.found {
         return n;
     }
-    let found = edges::between(book, table, k, from, dst);
-    match found {
-        Found::Edge(f) => slots::push_two(out, q.slots, n, e, f),
-        Found::Nothing => n,
-    }
+    slots::push_two(out, q.slots, n, e, edges::edge_at(k, from, dst, j))
 }
 
 fn pairs(
@@ -395,12 +391,13 @@ fn all_chains(
 
 // 0 where the segment at k is not the first of its equals; where it is, 2 if an entry has the AS `dst`, else 1. A
 // non-core segment of class 1 has no edge that arrives.
-fn class_of(book: &[u8], table: &[u16; PLACES], k: u8, dst: IsdAsn) -> u8
+fn class_of(book: &[u8], table: &[u16; PLACES], k: u8, first: u8, dst: IsdAsn) -> u8
     requires { ⌜ Ready (now book) (now table) ⌝ }
     requires { ⌜ k < segmentCount (now book) ⌝ }
+    requires { ⌜ first ≡ firstAt (now book) k ⌝ }
     ensures { λ r. ⌜ r ≡ classOf (now (book .entry)) dst k ⌝ }
 {
-    if !equal::is_first(book, k) {
+    if first == 0 {
         return 0;
     }
     if edges::has_as(book, table, k, dst) {
@@ -424,13 +421,14 @@ fn plan_of(book: &[u8], table: &[u16; PLACES], count: u8, dst: IsdAsn) -> [u8; P
     requires { ⌜ (count ≡ segmentCount (now book)) × (count ≤ maxSegments) ⌝ }
     ensures { λ r. ⌜ Planned (now (book .entry)) dst count 0 r ⌝ }
 {
+    let firsts = firsts::firsts_of(book, table, count);
     let mut plan = [0u8; PLAN];
     plan[NEXT + (count as usize)] = count;
     let mut next = count;
     let mut k = count;
     while k > 0 {
         k -= 1;
-        let class = class_of(book, table, k, dst);
+        let class = class_of(book, table, k, firsts[k as usize], dst);
         next = next_at(class, k, next);
         plan[k as usize] = class;
         plan[NEXT + (k as usize)] = next;

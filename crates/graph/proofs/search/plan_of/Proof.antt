@@ -13,21 +13,25 @@ use Rattle.graph.proofs.search.plan_of.Statement.{statement}
 use Rattle.graph.proofs.search.plan_of.Tie as tie
 
 abbrev Inv-loop : tie.InvT-loop
-Inv-loop book table count dst plan₀ next₀ k₀ plan next k =
-    (k ≤ count) × (length plan ≡ 2 * maxSegments + 1) × (next ≡ firstWith (arrives book dst) k (count - k)) × Planned book dst count k plan
+Inv-loop book table count dst firsts plan₀ next₀ k₀ plan next k = (k ≤ count) × (length plan ≡ 2 * maxSegments + 1) × (next ≡ firstWith (arrives book dst) k (count - k)) × Planned book dst count k plan
 
 abbrev μ-loop : tie.MeasureT-loop
-μ-loop book table count dst plan₀ next₀ k₀ plan next k = k
+μ-loop book table count dst firsts plan₀ next₀ k₀ plan next k = k
 
 loop-holds : tie.Need-loop-holds Inv-loop μ-loop
 loop-holds c =
-    let few = c .before .pre .1 .1 in
+    let few = c .before .before .pre .1 .1 in
     (omega arith, simp length-set, next-end _ _ _ few, plan-start _ _ _ few (replicate (2 * maxSegments + 1) 0) refl)
+
+class-of-requires : tie.Need-class-of-requires Inv-loop μ-loop
+class-of-requires c κs =
+    let p = c .before .before .before .before .pre in
+    (p .0, (omega arith, c .before .before .firsts-of .ensures .told _ (omega arith)))
 
 loop-again : tie.Need-loop-again Inv-loop μ-loop
 loop-again c =
     let l = c .before .before .before .loop in
-    let few = c .before .before .before .before .before .pre .1 .1 in (
+    let few = c .before .before .before .before .before .before .pre .1 .1 in (
       omega arith,
       simp length-set (l .inv .1),
       next-turn _ _ _ few (l .k) (omega arith) (omega arith) (c .before .class-of .ensures) (l .inv .2) (c .next-at .ensures),
@@ -43,11 +47,14 @@ plan-of-spec =
     (tie.spec
     Inv-loop
     μ-loop
+    (λ c κs. search needs)
     (λ c. search needs)
     (λ c. search needs)
     loop-holds
     (λ c. search needs)
-    (λ c κs. search needs)
+    (λ c. search needs)
+    (λ c. search needs)
+    class-of-requires
     (λ c κs. search needs)
     (λ c. search needs)
     (λ c. search needs)
