@@ -10,7 +10,7 @@ use lib.ListN.{length, getD, set, take, drop}
 use lib.Seq.{getD-set-same, getD-set-other, getD-take, getD-drop}
 use lib.Dec.{ltb, eqb}
 use borrow.Author.Tests.{ltb-true, eqb-true}
-use Rattle.spec.specs.Limits.{sizesSize, headSize, maxEntries}
+use Rattle.spec.specs.Limits.{sizesSize, headSize, entrySize, maxEntries}
 use Rattle.spec.specs.Basics.{if_then_else_, any, range, sameList}
 use Rattle.spec.specs.Octets.{be16, be32}
 use Rattle.spec.specs.Book.{Segment, segments, segmentAt, segmentCount, headOffset, wholeLength, timestampAt, idAt, entryCountAt, bodyLengthAt, bodyOffset, entryOffset}
@@ -37,8 +37,8 @@ module _ (b t : List ℕ) (r : Ready b t) (k : ℕ) (h : k < segmentCount b) whe
 
   module _ {n : ℕ} (count : n ≡ entryCount (segmentAt b k)) where
     -- no entries, no bytes
-    pub byte-none : n ≡ 0 → 0 ≡ getD (segmentAt b k .body) 24 0
-    byte-none none = sym (ap (λ m. getD (take m (drop (bodyOffset b k) b)) 24 0) size ∙ refl) ∙ unfold segmentAt in refl
+    pub byte-none : (i : ℕ) → n ≡ 0 → 0 ≡ getD (segmentAt b k .body) i 0
+    byte-none i none = sym (ap (λ m. getD (take m (drop (bodyOffset b k) b)) i 0) size ∙ refl) ∙ unfold segmentAt in refl
       where
         size : bodyLengthAt b k ≡ 0
         size =
@@ -58,22 +58,22 @@ module _ (b t : List ℕ) (r : Ready b t) (k : ℕ) (h : k < segmentCount b) whe
       unfolding entryOffset
       start = place b t r k h 0 some-entry
 
-      pub byte-read : {o : ℕ} → o ≡ getD t (maxEntries * k + 0) 0 → getD b (o + 24) 0 ≡ getD (segmentAt b k .body) 24 0
-      byte-read e =
-          ap (λ m. getD b (m + 24) 0) (e ∙ start)
-          ∙ sym (getD-drop (bodyOffset b k) b 24 0)
-          ∙ sym (getD-take (bodyLengthAt b k) (drop (bodyOffset b k) b) 24 0 long)
+      pub byte-read : (i : ℕ) → i < entrySize → {o : ℕ} → o ≡ getD t (maxEntries * k + 0) 0 → getD b (o + i) 0 ≡ getD (segmentAt b k .body) i 0
+      byte-read i l e =
+          ap (λ m. getD b (m + i) 0) (e ∙ start)
+          ∙ sym (getD-drop (bodyOffset b k) b i 0)
+          ∙ sym (getD-take (bodyLengthAt b k) (drop (bodyOffset b k) b) i 0 long)
           ∙ unfold segmentAt in refl
         where
-          long : 24 < bodyLengthAt b k
+          long : i < bodyLengthAt b k
           long =
               let z : entryOffset b (bodyOffset b k) 0 ≡ bodyOffset b k = unfold entryOffset in refl in
               omega (arith, count-read b k, entry-place b book k h 0 (omega (arith, count-read b k)) .entry)
 
-pub mark-read : (b : List ℕ) (k : ℕ) {x y z : ℕ} → x ≡ getD b (sizesSize + headSize * k + 3) 0 → y ≡ getD b (sizesSize + headSize * k + 5) 0
-    → z ≡ getD (segmentAt b k .body) 24 0 → (x + y + z) % 256 ≡ markOf (segmentAt b k)
+pub mark-read : (b : List ℕ) (k : ℕ) {x y v z : ℕ} → x ≡ getD b (sizesSize + headSize * k + 3) 0 → y ≡ getD b (sizesSize + headSize * k + 5) 0
+    → v ≡ getD (segmentAt b k .body) 17 0 → z ≡ getD (segmentAt b k .body) 24 0 → (x + y + v + z) % 256 ≡ markOf (segmentAt b k)
 unfolding markOf segmentAt timestampAt idAt headOffset be32 be16
-mark-read b k p q s =
+mark-read b k p q u s =
     let e : sizesSize + headSize * k + 2 + 1 ≡ sizesSize + headSize * k + 3 = omega arith in
     let f : sizesSize + headSize * k + 4 + 1 ≡ sizesSize + headSize * k + 5 = omega arith in
     omega (arith, ap (λ m. getD b m 0) e, ap (λ m. getD b m 0) f)
@@ -90,8 +90,8 @@ same-mark s t q =
     let p = and-true _ (sameList (s .body) (t .body)) q in
     let i = and-true _ (eqb (s .id) (t .id)) (p .0) in
     let h = and-true (sameBool (s .core) (t .core)) (eqb (s .timestamp) (t .timestamp)) (i .0) in
-    ap₂ (λ x y. (x + y + getD (s .body) 24 0) % 256) (eqb-true _ _ (h .1)) (eqb-true _ _ (i .1))
-    ∙ ap (λ l. (t .timestamp + t .id + getD l 24 0) % 256) (sameList-eq _ _ (p .1))
+    ap₂ (λ x y. (x + y + getD (s .body) 17 0 + getD (s .body) 24 0) % 256) (eqb-true _ _ (h .1)) (eqb-true _ _ (i .1))
+    ∙ ap (λ l. (t .timestamp + t .id + getD l 17 0 + getD l 24 0) % 256) (sameList-eq _ _ (p .1))
 
 none-map : {A : Type 0} (p : A → Bool) (f : ℕ → A) → ((i : ℕ) → p (f i) ≡ false) → (xs : List ℕ) → any p (map f xs) ≡ false
 unfolding any

@@ -10,7 +10,7 @@ use Rattle.spec.specs.Edges.{isFirst}
 
 -- a byte of what tells equal segments
 unfoldable pub markOf : Segment → ℕ
-markOf s = (s .timestamp + s .id + getD (s .body) 24 0) % 256
+markOf s = (s .timestamp + s .id + getD (s .body) 17 0 + getD (s .body) 24 0) % 256
 
 -- 1 where the segment at k is the first of its equals, else 0
 unfoldable pub firstAt : List ℕ → ℕ → ℕ

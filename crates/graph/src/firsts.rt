@@ -4,7 +4,7 @@ ghost use mathlib.Core.Path.{_≡_};
 ghost use mathlib.Core.Bool.{true};
 ghost use Prim.Native.Nat.{_≤_, _<_};
 ghost use lib.ListN.{getD};
-ghost use Rattle.spec.specs.Limits.{maxSegments};
+ghost use Rattle.spec.specs.Limits.{maxSegments, entrySize};
 ghost use Rattle.spec.specs.Book.{segments, segmentAt, segmentCount};
 ghost use Rattle.spec.specs.Edges.{isFirst};
 ghost use Rattle.graph.specs.Ready.{Ready};
@@ -15,22 +15,25 @@ use spec::Head;
 use spec::Limits;
 use spec::Sizes;
 
-// Where a byte of the MAC of a body's first entry stands, which differs in most bodies.
+// Where bytes of a body's first entry stand that differ in most bodies: of its egress and of its MAC.
+const EGRESS: usize = 17;
+
 const MAC: usize = 24;
 
-// That byte, or 0 where the body is empty.
-fn body_byte(book: &[u8], table: &[u16; PLACES], k: u8) -> u8
+// Byte i of a body, which lies in its first entry, or 0 where the body is empty.
+fn body_byte(book: &[u8], table: &[u16; PLACES], k: u8, i: usize) -> u8
     requires { ⌜ Ready (now book) (now table) ⌝ }
     requires { ⌜ k < segmentCount (now book) ⌝ }
-    ensures { λ r. ⌜ r ≡ getD (segmentAt (now (book .entry)) k .body) 24 0 ⌝ }
+    requires { ⌜ i < entrySize ⌝ }
+    ensures { λ r. ⌜ r ≡ getD (segmentAt (now (book .entry)) k .body) i 0 ⌝ }
 {
     if edges::count_of(book, k) == 0 {
         return 0;
     }
-    book[edges::offset_at(table, k, 0) + MAC]
+    book[edges::offset_at(table, k, 0) + i]
 }
 
-// The low bytes of timestamp and id and a byte of the body, in one byte.
+// The low bytes of timestamp and id and two of the body, in one byte.
 fn mark_of(book: &[u8], table: &[u16; PLACES], k: u8) -> u8
     requires { ⌜ Ready (now book) (now table) ⌝ }
     requires { ⌜ k < segmentCount (now book) ⌝ }
@@ -38,7 +41,9 @@ fn mark_of(book: &[u8], table: &[u16; PLACES], k: u8) -> u8
 {
     let head = Sizes::SIZE + Head::SIZE * (k as usize);
     let low = edges::wide16(book[head + 3]) + edges::wide16(book[head + 5]);
-    ((low + edges::wide16(body_byte(book, table, k))) % 256) as u8
+    let egress = edges::wide16(body_byte(book, table, k, EGRESS));
+    let mac = edges::wide16(body_byte(book, table, k, MAC));
+    ((low + egress + mac) % 256) as u8
 }
 
 // 1 where the segment at k is the first of its equals, else 0. No segment before it has its mark where that was not

@@ -14,7 +14,7 @@ shared-slice-read-wide16-2 : tie.Need-shared-slice-read-wide16-2
 shared-slice-read-wide16-2 c = let p = c .before .before .before .before .pre in omega (arith, head-place _ _ (p .0) _ (p .1))
 
 returns : tie.Need-returns
-returns c = mark-read _ _ (c .before .before .before .before .wide16 .ensures .0) (c .before .before .wide162 .ensures .0) (c .wide163 .ensures .0 ∙ c .before .body-byte .ensures)
+returns c = mark-read _ _ (c .before .before .before .before .before .before .wide16 .ensures .0) (c .before .before .before .before .wide162 .ensures .0) (c .before .before .wide163 .ensures .0 ∙ c .before .before .before .body-byte .ensures) (c .wide164 .ensures .0 ∙ c .before .body-byte2 .ensures)
 
 pub mark-of-spec : {M : Type 1} → statement M
 mark-of-spec =
@@ -31,6 +31,9 @@ mark-of-spec =
     (λ c. search needs)
     (λ c κs. search needs)
     (λ c κs. search needs)
+    (λ c. search needs)
+    (λ c. search needs)
+    (λ c. search needs)
     (λ c. search needs)
     (λ c. search needs)
     returns)
