@@ -5,7 +5,7 @@ use native.Mathlib.Omega.{arith}
 use mathlib.Core.Path.{_≡_, refl, sym, ap, ap₂, _∙_, subst}
 use mathlib.Core.Bool.{Bool}
 use mathlib.Core.List.{List, [], _∷_, _++_, map, flatMap}
-use lib.ListN.{length, getD, take, drop, replicate}
+use lib.ListN.{length, getD, set, take, drop, replicate}
 use lib.Seq.{take-all}
 use Rattle.spec.specs.declared.Edge.{Edge}
 use Rattle.spec.specs.declared.SolutionEdge.{SolutionEdge}
@@ -16,7 +16,7 @@ use Rattle.spec.specs.Octets.{octets2}
 use Rattle.spec.specs.Order.{cost, weightOf, solutionEdge}
 use Rattle.spec.specs.Records.{bit, edgeOctets, edgeAt, noEdge, solutionOf, solutionOctets}
 use Rattle.output.specs.Write.{written}
-use Rattle.output.proofs.Writing.{written-within}
+use Rattle.output.proofs.Writing.{copied, copied-more, written-within}
 use Rattle.graph.specs.Pushed.{Slots, putAt, edgeBytes, recordOctets, pushRecord, pushed, Pushes}
 use Rattle.graph.proofs.PushedLaws.{record-room, record-full, pushed-one, pushed-most}
 
@@ -54,6 +54,17 @@ record-of (e ∷ f ∷ g ∷ []) h = refl
 record-of (e ∷ f ∷ g ∷ i ∷ c) h = absurd (omega arith)
 
 -- ---- pushed
+
+-- a byte more of a record is written
+pub copied-next : (d : List ℕ) (at : ℕ) (r : List ℕ) (j : ℕ) → j < length r → set (copied d at r 0 j) (at + j) (getD r j 0) ≡ copied d at r 0 (j + 1)
+copied-next d at r j h =
+    let e : j ≡ 0 + j = omega arith in
+    ap (λ i. set (copied d at r 0 j) (at + j) (getD r i 0)) e ∙ copied-more d at r 0 j (omega arith)
+
+-- the loop that writes a record has come to its end
+pub copied-record : (d : List ℕ) (at : ℕ) (r : List ℕ) (j : ℕ) → j ≤ solutionSize → solutionSize ≤ j → copied d at r 0 j ≡ written d at (take solutionSize (drop 0 r))
+unfolding copied
+copied-record d at r j h g = let e : j ≡ solutionSize = omega arith in rw e
 
 pub push-room : (slots n : ℕ) (out next r : List ℕ) (s : Solution) → n < slots → solutionSize * slots ≤ length out → r ≡ recordOctets s
     → next ≡ written out (solutionSize * n) (take solutionSize (drop 0 r)) → (n + 1, next) ≡ pushRecord slots (n, out) (recordOctets s)

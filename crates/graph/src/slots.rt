@@ -2,11 +2,12 @@
 // stops at one past the slots there are.
 ghost use mathlib.Core.Path.{_≡_};
 ghost use mathlib.Core.List.{[], _∷_};
-ghost use Prim.Native.Nat.{_*_, _≤_};
-ghost use lib.ListN.{length};
+ghost use Prim.Native.Nat.{_+_, _*_, _≤_};
+ghost use lib.ListN.{length, take, drop};
 ghost use Rattle.spec.specs.Limits.{solutionSize};
 ghost use Rattle.spec.specs.Order.{solutionEdge};
 ghost use Rattle.spec.specs.Records.{bit, noEdge, solutionOf};
+ghost use Rattle.output.specs.Write.{written};
 ghost use Rattle.graph.specs.Pushed.{recordOctets, pushRecord, Room, Pushes};
 use spec::Edge;
 use spec::Solution;
@@ -99,6 +100,19 @@ pub(crate) fn octets_of(s: Solution) -> [u8; Solution::SIZE]
 
 // ---- the slots
 
+// Writes a record at index `at`, byte by byte over a length that is fixed: the compiler makes one store of it.
+fn put_record(r: &[u8], out: &mut [u8], at: usize)
+    requires { ⌜ length (now r) ≡ solutionSize ⌝ }
+    requires { ⌜ at + solutionSize ≤ length (now out) ⌝ }
+    ensures { λ _. ⌜ now (out .exit) ≡ written (now (out .entry)) at (take solutionSize (drop 0 (now (r .entry)))) ⌝ }
+{
+    let mut j: usize = 0;
+    while j < Solution::SIZE {
+        out[at + j] = r[j];
+        j += 1;
+    }
+}
+
 // Writes a record at slot n, if there is one; the count after it.
 fn push(out: &mut [u8], slots: usize, n: usize, s: Solution) -> usize
     requires { ⌜ solutionSize * slots ≤ length (now out) ⌝ }
@@ -106,7 +120,7 @@ fn push(out: &mut [u8], slots: usize, n: usize, s: Solution) -> usize
 {
     if n < slots {
         let r = octets_of(s);
-        output::copy(&r, 0, Solution::SIZE, out, Solution::SIZE * n);
+        put_record(&r, out, Solution::SIZE * n);
         return n + 1;
     }
     slots + 1
