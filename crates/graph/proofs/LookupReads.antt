@@ -27,7 +27,7 @@ use Rattle.spec.proofs.OnceLaws.{any-mem, segment-position}
 use Rattle.spec.proofs.BookLaws.{AcceptedBook, accepted, mem-range, entry-count, segment-length}
 use Rattle.spec.proofs.BodyLaws.{body-end, entry-place, peer-place}
 use Rattle.octets.proofs.Halves.{halves64}
-use Rattle.book.specs.Offsets.{offsetTable, openTable}
+use Rattle.book.specs.Offsets.{openTable}
 use Rattle.segment.proofs.Fitting.{position-small}
 use Rattle.book.proofs.Tables.{open-accepted, table-at, table-as, table-peers, table-peer}
 use Rattle.graph.specs.declared.edges.Link.{Link}
@@ -35,9 +35,9 @@ use Rattle.spec.specs.Chains.{leaves}
 use Rattle.graph.specs.Lookup.{hasEnds, between, leavingOf}
 use Rattle.graph.specs.Leaving.{entryCount, peerCountOf, linkOf, isEntryOf, asStands, isLink, hasLink, peerStands, asUp, peerUp}
 use Rattle.graph.specs.Scan.{joins, firstWith, lastWith, entryWith, hasAs, entryLinked, peerLinked, asEdgeAt, peerEdgeAt, downPeerEdge, coreEdge, coreEdgeFrom}
-use Rattle.graph.specs.Ready.{Ready, Filled}
+use Rattle.graph.specs.Ready.{Ready}
 use Rattle.graph.specs.Link.{endOf, samePeer}
-use Rattle.graph.proofs.LookupScan.{when, any-first, first-passes, is-last}
+use Rattle.graph.proofs.LookupScan.{when, any-first, first-more, first-passes, is-last}
 use Rattle.graph.proofs.LookupLaws.{up-as, down-as, down-link, no-leaf, core-as, core-peering, core-leaving, none-stored, as-eq, eq-sameAs}
 use Rattle.graph.proofs.LeavingLaws.{linked, peer-last, link-own}
 
@@ -254,9 +254,31 @@ module _ (seg : Segment) (l : Link) (i : ℕ) where
   pub link-told : {q : ℕ} → q ≡ peerLinked seg (endOf l) i → ltb 0 q ≡ hasLink seg (endOf l) i
   link-told p = ap (ltb 0) p ∙ sym (linked seg (endOf l) i)
 
-pub has-read : (seg : Segment) (a : IsdAsn) {n i : ℕ} → n ≡ entryCount seg → i ≡ entryWith seg a n → ltb i n ≡ hasAs seg a
-unfolding hasAs
-has-read seg a {n} p q = ap (λ j. ltb j n) q ∙ ap (λ m. ltb (entryWith seg a m) m) p
+-- an entry below i has an AS, as a look at every entry tells
+abbrev pub hasBelow : Segment → IsdAsn → ℕ → Bool
+hasBelow seg a i = ltb (entryWith seg a i) i
+
+module _ (seg : Segment) (a : IsdAsn) where
+  pub below-none : false ≡ hasBelow seg a 0
+  below-none = sym (le-ltb (entryWith seg a 0) 0 (unfold entryWith firstWith in omega arith))
+
+  pub below-turn : (i : ℕ) {x : IsdAsn} {t u : Bool} → x ≡ asOf seg i → t ≡ hasBelow seg a i → u ≡ (sameAs x a || t) → u ≡ hasBelow seg a (i + 1)
+  unfolding entryWith isEntryOf
+  below-turn i {x} {t} p q r =
+      let e : i ≡ 0 + i = omega arith in
+      let e′ : suc i ≡ i + 1 = omega arith in
+      let z : 0 + suc i ≡ suc i = omega arith in
+      r
+      ∙ ap (λ y. sameAs y a || t) p
+      ∙ ap (λ y. isEntryOf seg a i || y) q
+      ∙ ap (λ m. isEntryOf seg a m || ltb (firstWith (isEntryOf seg a) 0 i) m) e
+      ∙ first-more (isEntryOf seg a) 0 i
+      ∙ ap (ltb (firstWith (isEntryOf seg a) 0 (suc i))) z
+      ∙ ap (λ m. ltb (firstWith (isEntryOf seg a) 0 m) m) e′
+
+  pub below-all : {n i : ℕ} {t : Bool} → n ≡ entryCount seg → i ≡ n → t ≡ hasBelow seg a i → t ≡ hasAs seg a
+  unfolding hasAs
+  below-all p e q = q ∙ ap (hasBelow seg a) (e ∙ p)
 
 -- ---- sizes and heads
 
@@ -426,7 +448,7 @@ module _ (seg : Segment) (nc : seg .core ≡ false) (a : IsdAsn) (none : hasAs s
       not-both (any-mem (isEntryOf seg a) (range 0 (entryCount seg)) (mem-range 0 (entryCount seg) i (omega arith) (omega arith)) q)
       (any-first (isEntryOf seg a) 0 (entryCount seg) ∙ ap (ltb (firstWith (isEntryOf seg a) 0 (entryCount seg))) e ∙ none)
 
-  other-leaf : 0 < entryCount seg → sameAs (leafAs seg) a ≡ false
+  pub other-leaf : 0 < entryCount seg → sameAs (leafAs seg) a ≡ false
   other-leaf h = go (sameAs (leafAs seg) a) refl
     where
       go : (x : Bool) → sameAs (leafAs seg) a ≡ x → x ≡ false
@@ -455,6 +477,12 @@ module _ (seg : Segment) (nc : seg .core ≡ false) (a : IsdAsn) (none : hasAs s
           ∙ sym (as-past seg v (AS a) (entryWith seg a (entryCount seg - 1)) past-leaf)
       go true p false q =
           sym (from-none seg a nc (entryCount seg) refl (other-leaf (ltb-true _ _ p)) v (λ e. not-both (eq-sameVertex _ _ e) q))
+
+  -- and none leaves it for the leaf
+  pub none-leaves : between seg (AS a) (AS (leafAs seg)) ≡ []
+  none-leaves =
+      sym (to-as seg (leafAs seg) nc (entryCount seg) refl (eq-sameAs _ _ refl) (AS a) a refl)
+      ∙ sym (as-past seg (AS a) (AS (leafAs seg)) (entryWith seg a (entryCount seg - 1)) past-leaf)
 
 -- ---- a core segment
 

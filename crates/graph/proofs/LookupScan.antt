@@ -5,16 +5,15 @@ use native.Mathlib.Nat.{add-zero}
 use native.Mathlib.Numerals.{add-one}
 use native.Mathlib.Omega.{arith}
 use mathlib.Core.Path.{_≡_, refl, sym, ap, ap₂, _∙_, subst}
-use mathlib.Core.Logic.{_⊎_, inl, inr, ⊎-elim}
-use mathlib.Core.Bool.{Bool, true, false, _&&_, _||_, not}
-use mathlib.Core.List.{List, [], _∷_, _++_, flatMap, reverse, reverse-cons, append-nil, List·Memᴰ as Mem}
+use mathlib.Core.Bool.{Bool, true, false, _||_, not}
+use mathlib.Core.List.{List, [], _∷_, _++_, flatMap, reverse, reverse-cons, append-nil}
 use lib.ListN.{length}
-use lib.Dec.{ltb, eqb}
-use borrow.Author.Tests.{ltb-true, ltb-false, lt-ltb, le-ltb}
+use lib.Dec.{ltb}
+use borrow.Author.Tests.{lt-ltb, le-ltb}
 use Rattle.spec.specs.declared.Edge.{Edge}
 use Rattle.spec.specs.Basics.{if_then_else_, any, range}
 use Rattle.spec.proofs.Membership.{not-both}
-use Rattle.spec.proofs.Lists.{flatMap-append, range-suc, reverse-range}
+use Rattle.spec.proofs.Lists.{flatMap-append, range-suc}
 use Rattle.graph.specs.Scan.{firstWith, lastWith}
 
 -- ---- the first list that is not empty
@@ -162,6 +161,31 @@ module _ (p : ℕ → Bool) where
           → (if x then i else firstWith p (i + 1) k) < i + suc k → p (if x then i else firstWith p (i + 1) k) ≡ true
       go true q ih h = q
       go false q ih h = ih (omega arith)
+
+  -- one number more
+  pub first-more : (i k : ℕ) → (p (i + k) || ltb (firstWith p i k) (i + k)) ≡ ltb (firstWith p i (suc k)) (i + suc k)
+  unfolding firstWith
+  first-more i zero = go (p i) (ap p (add-zero i))
+    where
+      go : (x : Bool) → p (i + 0) ≡ x → (p (i + 0) || ltb i (i + 0)) ≡ ltb (if x then i else i + 1) (i + 1)
+      go true q = ap (λ y. y || ltb i (i + 0)) q ∙ sym (lt-ltb i (i + 1) (omega arith))
+      go false q = ap (λ y. y || ltb i (i + 0)) q ∙ le-ltb i (i + 0) (omega arith) ∙ sym (le-ltb (i + 1) (i + 1) (omega arith))
+  first-more i (suc k) = go (p i) (first-more (i + 1) k)
+    where
+      or-true : (x : Bool) → (x || true) ≡ true
+      or-true true = refl
+      or-true false = refl
+
+      e : i + suc k ≡ i + 1 + k
+      e = omega arith
+
+      e′ : i + 1 + suc k ≡ i + suc (suc k)
+      e′ = omega arith
+
+      go : (x : Bool) → (p (i + 1 + k) || ltb (firstWith p (i + 1) k) (i + 1 + k)) ≡ ltb (firstWith p (i + 1) (suc k)) (i + 1 + suc k)
+          → (p (i + suc k) || ltb (if x then i else firstWith p (i + 1) k) (i + suc k)) ≡ ltb (if x then i else firstWith p (i + 1) (suc k)) (i + suc (suc k))
+      go true h = ap (λ y. p (i + suc k) || y) (lt-ltb i (i + suc k) (omega arith)) ∙ or-true (p (i + suc k)) ∙ sym (lt-ltb i (i + suc (suc k)) (omega arith))
+      go false h = ap (λ m. p m || ltb (firstWith p (i + 1) k) m) e ∙ h ∙ ap (ltb (firstWith p (i + 1) (suc k))) e′
 
   -- numbers that do not pass are passed over
   pub first-skip : (i j k : ℕ) → any p (range i j) ≡ false → firstWith p i (j + k) ≡ firstWith p (i + j) k

@@ -4,7 +4,7 @@ use Prim.Native.Nat.{ℕ, suc, _+_, _-_, _<_}
 use native.Mathlib.Omega.{arith}
 use mathlib.Core.Path.{_≡_, refl, sym, ap, ap₂, _∙_}
 use mathlib.Core.Bool.{Bool, true, false, _&&_}
-use mathlib.Core.List.{List, [], _∷_, _++_, map, flatMap, append-assoc, List·Memᴰ as Mem, List·Memᴰ·head as head, List·Memᴰ·tail as tail}
+use mathlib.Core.List.{List, [], _∷_, _++_, map, flatMap, List·Memᴰ as Mem, List·Memᴰ·head as head, List·Memᴰ·tail as tail}
 use Rattle.spec.specs.Basics.{if_then_else_, filter, range}
 use Rattle.spec.proofs.Lists.{flatMap-append}
 
@@ -86,9 +86,3 @@ unfolding range
 range-turn i n h =
     let e : n - i ≡ suc (n - (i + 1)) = omega arith in
     ap (range i) e
-
-pub range-end : (n : ℕ) → range n (n - n) ≡ []
-unfolding range
-range-end n =
-    let e : n - n ≡ 0 = omega arith in
-    ap (range n) e

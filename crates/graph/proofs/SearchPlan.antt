@@ -8,20 +8,19 @@ use mathlib.Core.Bool.{Bool, true, false}
 use mathlib.Core.List.{List, [], _++_}
 use lib.ListN.{length, getD, set, length-set}
 use lib.Seq.{getD-set-same, getD-set-other}
-use lib.Dec.{ltb}
-use borrow.Author.Tests.{ltb-true, ltb-false, lt-ltb, le-ltb}
 use Rattle.spec.specs.declared.IsdAsn.{IsdAsn}
 use Rattle.spec.specs.declared.Edge.{Edge}
 use Rattle.spec.specs.Limits.{maxSegments}
 use Rattle.spec.specs.Basics.{if_then_else_}
 use Rattle.spec.specs.Book.{Segment, segments, segmentAt, cores}
 use Rattle.spec.specs.Edges.{isFirst}
-use Rattle.graph.specs.Scan.{firstWith, hasAs}
-use Rattle.graph.specs.Prepared.{classOf, arrives, Planned}
+use Rattle.spec.specs.Records.{bit}
+use Rattle.graph.specs.Scan.{firstWith}
+use Rattle.graph.specs.Prepared.{begins, arrives, Planned}
 use Rattle.graph.specs.Search.{overFirsts, chainsWith, triplesIn}
 use Rattle.graph.proofs.LookupScan.{first-le, first-passes}
 use Rattle.graph.proofs.SearchLaws.{over-turn, over-skip}
-use Rattle.graph.proofs.SearchTurns.{class-first, class-low, pair-none, triple-none}
+use Rattle.graph.proofs.SearchTurns.{arrives-first, arrives-none, pair-none, triple-none}
 
 -- ---- the plan is made from the last position down
 
@@ -34,17 +33,10 @@ more-below xs place f k n v apart l q above i a h = go (ℕ-discrete k i)
     go (yes e) = ap (λ j. getD (set xs (place k) v) (place j) 0) (sym e) ∙ getD-set-same xs (place k) v 0 l ∙ q ∙ ap f e
     go (no d) = getD-set-other xs (place k) (place i) v 0 (λ e. d (sym (apart i k e))) ∙ above i (omega arith) h
 
-module _ (class k next : ℕ) where
-  pub next-here : 1 < class → k ≡ (if ltb 1 class then k else next)
-  next-here h = sym (ap (λ t. if t then k else next) (lt-ltb 1 class h))
+pub plan-all : {b : List ℕ} {src dst : IsdAsn} {n k : ℕ} {plan : List ℕ} → Planned b src dst n k plan → k ≤ 0 → Planned b src dst n 0 plan
+plan-all p h = record { starts = λ i a. p .starts i (omega arith); nexts = λ i a. p .nexts i (omega arith) }
 
-  pub next-later : class ≤ 1 → next ≡ (if ltb 1 class then k else next)
-  next-later h = sym (ap (λ t. if t then k else next) (le-ltb 1 class h))
-
-pub plan-all : {b : List ℕ} {dst : IsdAsn} {n k : ℕ} {plan : List ℕ} → Planned b dst n k plan → k ≤ 0 → Planned b dst n 0 plan
-plan-all p h = record { classes = λ i a. p .classes i (omega arith); nexts = λ i a. p .nexts i (omega arith) }
-
-module _ (b : List ℕ) (dst : IsdAsn) (n : ℕ) (few : n ≤ maxSegments) where
+module _ (b : List ℕ) (dst : IsdAsn) (n : ℕ) where
   abbrev nextFrom : ℕ → ℕ
   nextFrom k = firstWith (arrives b dst) k (n - k)
 
@@ -52,40 +44,39 @@ module _ (b : List ℕ) (dst : IsdAsn) (n : ℕ) (few : n ≤ maxSegments) where
   unfolding firstWith
   next-end = let e : n - n ≡ 0 = omega arith in sym (ap (firstWith (arrives b dst) n) e)
 
-  pub plan-start : (plan : List ℕ) → length plan ≡ 2 * maxSegments + 1 → Planned b dst n n (set plan (maxSegments + n) n)
-  plan-start plan size =
-      record {
-        classes = λ i a h. absurd (omega arith);
-        nexts = λ i a h.
-            let e : n ≡ i = omega arith in
-            ap (λ j. getD (set plan (maxSegments + n) n) (maxSegments + j) 0) (sym e) ∙ getD-set-same plan (maxSegments + n) n 0 (omega arith) ∙ next-end ∙ ap nextFrom e;
-      }
+  pub next-turn : (k : ℕ) → 0 < k → k ≤ n → {t : Bool} {next new : ℕ} → t ≡ arrives b dst (k - 1) → next ≡ nextFrom k → new ≡ (if t then k - 1 else next)
+      → new ≡ nextFrom (k - 1)
+  unfolding firstWith
+  next-turn k below within {next = next} there later chosen =
+      let back : k ≡ k - 1 + 1 = omega arith in
+      let e : suc (n - (k - 1 + 1)) ≡ n - (k - 1) = omega arith in
+      chosen
+      ∙ ap (λ x. if x then k - 1 else next) there
+      ∙ ap (λ x. if arrives b dst (k - 1) then k - 1 else x) (later ∙ ap nextFrom back)
+      ∙ ap (firstWith (arrives b dst) (k - 1)) e
 
-  module _ (k : ℕ) (below : 0 < k) (within : k ≤ n) {class next new : ℕ} (here : class ≡ classOf b dst (k - 1)) (later : next ≡ nextFrom k)
-      (chosen : new ≡ (if ltb 1 class then k - 1 else next)) where
-    back : k - 1 + 1 ≡ k
-    back = omega arith
-
-    pub next-turn : new ≡ nextFrom (k - 1)
-    unfolding firstWith arrives
-    next-turn =
-        let e : n - (k - 1) ≡ suc (n - (k - 1 + 1)) = omega arith in
-        chosen
-        ∙ ap (λ x. if ltb 1 x then k - 1 else next) here
-        ∙ ap (λ x. if ltb 1 (classOf b dst (k - 1)) then k - 1 else x) (later ∙ ap nextFrom (sym back))
-        ∙ sym (ap (firstWith (arrives b dst) (k - 1)) e)
-
-    pub plan-turn : (plan : List ℕ) → length plan ≡ 2 * maxSegments + 1 → Planned b dst n k plan
-        → Planned b dst n (k - 1) (set (set plan (k - 1) class) (maxSegments + (k - 1)) new)
-    plan-turn plan size p =
-        let l : length (set plan (k - 1) class) ≡ 2 * maxSegments + 1 = simp length-set size in
+  module _ (src : IsdAsn) (few : n ≤ maxSegments) (plan : List ℕ) (size : length plan ≡ 2 * maxSegments + 1) where
+    pub plan-start : Planned b src dst n n (set plan (maxSegments + n) n)
+    plan-start =
         record {
-          classes = λ i a h.
-              getD-set-other (set plan (k - 1) class) (maxSegments + (k - 1)) i new 0 (λ e. omega arith)
-              ∙ more-below plan (λ j. j) (classOf b dst) (k - 1) n class (λ i j e. e) (omega arith) here (λ j c d. p .classes j (omega arith) d) i a h;
+          starts = λ i a h. absurd (omega arith);
           nexts = λ i a h.
-              more-below (set plan (k - 1) class) (λ j. maxSegments + j) nextFrom (k - 1) (n + 1) new (λ i j e. omega arith) (omega arith) next-turn
-              (λ j c d. getD-set-other plan (k - 1) (maxSegments + j) class 0 (λ e. omega arith) ∙ p .nexts j (omega arith) (omega arith)) i a (omega arith);
+              let e : n ≡ i = omega arith in
+              ap (λ j. getD (set plan (maxSegments + n) n) (maxSegments + j) 0) (sym e) ∙ getD-set-same plan (maxSegments + n) n 0 (omega arith) ∙ next-end ∙ ap nextFrom e;
+        }
+
+    pub plan-turn : (k : ℕ) → 0 < k → k ≤ n → {s : Bool} {start next : ℕ} → s ≡ begins b src (k - 1) → start ≡ bit s → next ≡ nextFrom (k - 1)
+        → Planned b src dst n k plan → Planned b src dst n (k - 1) (set (set plan (k - 1) start) (maxSegments + (k - 1)) next)
+    plan-turn k below within {start = start} {next = next} here told chosen p =
+        let l : length (set plan (k - 1) start) ≡ 2 * maxSegments + 1 = simp length-set size in
+        record {
+          starts = λ i a h.
+              getD-set-other (set plan (k - 1) start) (maxSegments + (k - 1)) i next 0 (λ e. omega arith)
+              ∙ more-below plan (λ j. j) (λ j. bit (begins b src j)) (k - 1) n start (λ i j e. e) (omega arith) (told ∙ ap bit here)
+              (λ j c d. p .starts j (omega arith) d) i a h;
+          nexts = λ i a h.
+              more-below (set plan (k - 1) start) (λ j. maxSegments + j) nextFrom (k - 1) (n + 1) next (λ i j e. omega arith) (omega arith) chosen
+              (λ j c d. getD-set-other plan (k - 1) (maxSegments + j) start 0 (λ e. omega arith) ∙ p .nexts j (omega arith) (omega arith)) i a (omega arith);
         }
 
 -- ---- what is passed over
@@ -118,20 +109,12 @@ module _ {A : Type 0} (f : Segment → List A) (b : List ℕ) (p : ℕ → Bool)
       ∙ ap (λ m. overFirsts f b (firstWith p k (n - k)) (m - firstWith p k (n - k))) e
       ∙ ap (λ i. overFirsts f b i (n - i)) (sym q)
 
--- where a loop over last edges stands: past all, or at a position of class 2
+-- where a loop over last edges stands: past all, or where chains may arrive
 pub record Stops (b : List ℕ) (dst : IsdAsn) (n k : ℕ) : Type 0 where
   pub within : k ≤ n
   pub here : k < n → arrives b dst k ≡ true
 
 module _ (b : List ℕ) (dst : IsdAsn) where
-  first-here : (k : ℕ) → arrives b dst k ≡ true → isFirst (segments b) (segmentAt b k) ≡ true
-  unfolding arrives
-  first-here k q = let h : 1 < classOf b dst k = ltb-true _ _ q in class-first b dst k refl (omega arith)
-
-  none-here : (k : ℕ) → arrives b dst k ≡ false → isFirst (segments b) (segmentAt b k) ≡ true → hasAs (segmentAt b k) dst ≡ false
-  unfolding arrives
-  none-here k q t = class-low b dst k refl (ltb-false _ _ q) t
-
   module _ (k n : ℕ) {j : ℕ} (h : k ≤ n) (next : j ≡ firstWith (arrives b dst) k (n - k)) where
     pub next-above : k ≤ j
     next-above = let l = first-le (arrives b dst) k (n - k) in omega arith
@@ -143,20 +126,20 @@ module _ (b : List ℕ) (dst : IsdAsn) where
 
     module _ (o : cores b ≤ k) where
       pub pairs-pass : (e : Edge) → overFirsts (chainsWith b dst e) b k (n - k) ≡ overFirsts (chainsWith b dst e) b j (n - j)
-      pairs-pass e = over-pass (chainsWith b dst e) b (arrives b dst) k n h (λ i a q t. pair-none b dst e i (omega arith) (none-here i q t)) next
+      pairs-pass e = over-pass (chainsWith b dst e) b (arrives b dst) k n h (λ i a q t. pair-none b dst e i (omega arith) (arrives-none b i dst (omega arith) q t)) next
 
       pub triples-pass : (e f : Edge) → overFirsts (triplesIn b dst e f) b k (n - k) ≡ overFirsts (triplesIn b dst e f) b j (n - j)
-      triples-pass e f = over-pass (triplesIn b dst e f) b (arrives b dst) k n h (λ i a q t. triple-none b dst e i f (omega arith) (none-here i q t)) next
+      triples-pass e f = over-pass (triplesIn b dst e f) b (arrives b dst) k n h (λ i a q t. triple-none b dst e i f (omega arith) (arrives-none b i dst (omega arith) q t)) next
 
   -- one position, and on to the next
   module _ (k n : ℕ) {j : ℕ} (s : Stops b dst n k) (h : k < n) (next : j ≡ firstWith (arrives b dst) (k + 1) (n - (k + 1))) (o : cores b ≤ k) where
     pub pairs-turn : (e : Edge) → overFirsts (chainsWith b dst e) b k (n - k) ≡ chainsWith b dst e (segmentAt b k) ++ overFirsts (chainsWith b dst e) b j (n - j)
     pairs-turn e =
-        over-turn (chainsWith b dst e) b k n h (first-here k (s .here h))
+        over-turn (chainsWith b dst e) b k n h (arrives-first b k dst (s .here h))
         ∙ ap (λ l. chainsWith b dst e (segmentAt b k) ++ l) (pairs-pass (k + 1) n (omega arith) next (omega arith) e)
 
     pub triples-turn : (e f : Edge)
         → overFirsts (triplesIn b dst e f) b k (n - k) ≡ triplesIn b dst e f (segmentAt b k) ++ overFirsts (triplesIn b dst e f) b j (n - j)
     triples-turn e f =
-        over-turn (triplesIn b dst e f) b k n h (first-here k (s .here h))
+        over-turn (triplesIn b dst e f) b k n h (arrives-first b k dst (s .here h))
         ∙ ap (λ l. triplesIn b dst e f (segmentAt b k) ++ l) (triples-pass (k + 1) n (omega arith) next (omega arith) e f)

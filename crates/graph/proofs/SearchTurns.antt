@@ -3,28 +3,29 @@
 use Prim.Native.Nat.{ℕ, _+_, _-_, _≤_, _<_}
 use native.Mathlib.Omega.{arith}
 use mathlib.Core.Path.{_≡_, refl, sym, ap, ap₂, _∙_}
-use mathlib.Core.Bool.{Bool, true, false}
+use mathlib.Core.Bool.{Bool, true, false, _&&_, _||_, not}
 use mathlib.Core.List.{List, [], _∷_, _++_, map, flatMap, append-nil, append-assoc}
-use lib.ListN.{length}
 use lib.Dec.{ltb, eqb}
-use borrow.Author.Tests.{lt-ltb, le-ltb, eq-eqb, ne-eqb}
+use borrow.Author.Tests.{ltb-true, ltb-false, lt-ltb, le-ltb, eqb-true, eqb-false, eq-eqb, ne-eqb}
 use Rattle.spec.specs.declared.IsdAsn.{IsdAsn}
 use Rattle.spec.specs.declared.Vertex.the-variants.{AS}
 use Rattle.spec.specs.declared.Edge.{Edge}
 use Rattle.spec.specs.Basics.{if_then_else_, range}
 use Rattle.spec.specs.Book.{Segment, segments, segmentAt, segmentCount, cores}
 use Rattle.spec.specs.Edges.{sameAs, sameVertex, leafAs, isFirst}
+use Rattle.spec.specs.Records.{bit}
 use Rattle.graph.specs.declared.Found.{Found}
 use Rattle.graph.specs.declared.Found.the-variants.{Edge as FoundEdge, Nothing}
 use Rattle.graph.specs.Lookup.{between, leavingOf, foundEdges}
 use Rattle.graph.specs.Leaving.{entryCount, peerCountOf, asUp, peerUp, upsAt, leavingIn}
 use Rattle.graph.specs.Scan.{hasAs}
 use Rattle.graph.specs.Firsts.{firstAt}
-use Rattle.graph.specs.Prepared.{classOf}
+use Rattle.graph.specs.Prepared.{begins, arrives}
 use Rattle.graph.specs.Search.{overFirsts, pair, triple, pairsIn, triplesIn, acrossWith, chainsWith, chainsFrom, chainsIn, foundChains}
 use Rattle.spec.proofs.Lists.{flatMap-append}
-use Rattle.graph.proofs.LookupReads.{none-arrives}
-use Rattle.graph.proofs.SearchLists.{range-turn, range-end}
+use Rattle.spec.proofs.Membership.{not-both}
+use Rattle.graph.proofs.LookupReads.{other-leaf, none-arrives, none-leaves}
+use Rattle.graph.proofs.SearchLists.{range-turn}
 use Rattle.graph.proofs.SearchLaws.{over-split, over-none, from-arrived, from-onward}
 
 -- ---- the kind of a position
@@ -37,51 +38,80 @@ pub other-at : (b : List ℕ) (k : ℕ) → cores b ≤ k → segmentAt b k .cor
 unfolding segmentAt
 other-at b k h = le-ltb k (cores b) h
 
--- ---- the class of a position
+-- ---- where chains may begin and arrive
 
-module _ (b : List ℕ) (dst : IsdAsn) (k : ℕ) {x : ℕ} (class : x ≡ classOf b dst k) where
-  pub class-first : 0 < x → isFirst (segments b) (segmentAt b k) ≡ true
-  unfolding classOf
-  class-first h = go (isFirst (segments b) (segmentAt b k)) class
+module _ (b : List ℕ) (k : ℕ) where
+  abbrev firstHere : Bool
+  firstHere = isFirst (segments b) (segmentAt b k)
+
+  begins-by : (src : IsdAsn) (t u : Bool) → firstHere ≡ t → segmentAt b k .core ≡ u → (t && (u || hasAs (segmentAt b k) src)) ≡ begins b src k
+  unfolding begins
+  begins-by src t u p q = sym (ap₂ (λ x y. x && (y || hasAs (segmentAt b k) src)) p q)
+
+  arrives-by : (dst : IsdAsn) (t u : Bool) → firstHere ≡ t → segmentAt b k .core ≡ u → (t && (not u && hasAs (segmentAt b k) dst)) ≡ arrives b dst k
+  unfolding arrives
+  arrives-by dst t u p q = sym (ap₂ (λ x y. x && (not y && hasAs (segmentAt b k) dst)) p q)
+
+  -- by the byte that tells the first of equals, and by what the entries have
+  module _ (src dst : IsdAsn) {x : ℕ} (first : x ≡ firstAt b k) where
+    first-told : (x ≡ 0 → ⊥) → firstHere ≡ true
+    unfolding firstAt
+    first-told d = go firstHere first
+      where
+        go : (t : Bool) → x ≡ (if t then 1 else 0) → t ≡ true
+        go true q = refl
+        go false q = absurd (d q)
+
+    later-told : x ≡ 0 → firstHere ≡ false
+    unfolding firstAt
+    later-told z = go firstHere first
+      where
+        go : (t : Bool) → x ≡ (if t then 1 else 0) → t ≡ false
+        go true q = absurd (omega arith)
+        go false q = refl
+
+    pub ends-later : x ≡ 0 → (false ≡ begins b src k) × (false ≡ arrives b dst k)
+    ends-later z = (begins-by src false _ (later-told z) refl, arrives-by dst false _ (later-told z) refl)
+
+    pub ends-core : (x ≡ 0 → ⊥) → k < cores b → (true ≡ begins b src k) × (false ≡ arrives b dst k)
+    ends-core d h = (begins-by src true true (first-told d) (core-at b k h), arrives-by dst true true (first-told d) (core-at b k h))
+
+    pub ends-other : {u v : Bool} → (x ≡ 0 → ⊥) → cores b ≤ k → u ≡ hasAs (segmentAt b k) src → v ≡ hasAs (segmentAt b k) dst
+        → (u ≡ begins b src k) × (v ≡ arrives b dst k)
+    ends-other d h p q =
+        (p ∙ begins-by src true false (first-told d) (other-at b k h), q ∙ arrives-by dst true false (first-told d) (other-at b k h))
+
+  -- as the loops use them
+  module _ (src : IsdAsn) {x : ℕ} (start : x ≡ bit (begins b src k)) where
+    pub start-first : 0 < x → firstHere ≡ true
+    unfolding begins bit
+    start-first h = go firstHere start
+      where
+        go : (t : Bool) → x ≡ (if t && (segmentAt b k .core || hasAs (segmentAt b k) src) then 1 else 0) → t ≡ true
+        go true q = refl
+        go false q = absurd (omega arith)
+
+    no-start : x ≤ 0 → (u : Bool) → segmentAt b k .core ≡ u → firstHere ≡ true → (u || hasAs (segmentAt b k) src) ≡ false
+    unfolding bit
+    no-start h u c t = go (u || hasAs (segmentAt b k) src) (start ∙ ap bit (sym (begins-by src true u t c)))
+      where
+        go : (y : Bool) → x ≡ (if y then 1 else 0) → y ≡ false
+        go true q = absurd (omega arith)
+        go false q = refl
+
+    pub start-core : {A : Type 0} → k < cores b → x ≤ 0 → firstHere ≡ true → A
+    start-core h l t = not-both refl (no-start l true (core-at b k h) t)
+
+  pub arrives-first : (dst : IsdAsn) → arrives b dst k ≡ true → firstHere ≡ true
+  unfolding arrives
+  arrives-first dst q = go firstHere q
     where
-      go : (t : Bool) → x ≡ (if t then (if hasAs (segmentAt b k) dst then 2 else 1) else 0) → t ≡ true
+      go : (t : Bool) → (t && (not (segmentAt b k .core) && hasAs (segmentAt b k) dst)) ≡ true → t ≡ true
       go true q = refl
-      go false q = absurd (omega arith)
+      go false q = q
 
-  -- not the first of its equals, or no entry has the destination's AS
-  pub class-low : x ≤ 1 → isFirst (segments b) (segmentAt b k) ≡ true → hasAs (segmentAt b k) dst ≡ false
-  unfolding classOf
-  class-low h t = go (hasAs (segmentAt b k) dst) (class ∙ ap (λ s. if s then (if hasAs (segmentAt b k) dst then 2 else 1) else 0) t)
-    where
-      go : (s : Bool) → x ≡ (if s then 2 else 1) → s ≡ false
-      go true q = absurd (omega arith)
-      go false q = refl
-
-  pub class-none : {A : Type 0} → x ≤ 0 → isFirst (segments b) (segmentAt b k) ≡ true → A
-  unfolding classOf
-  class-none h t = absurd (go (hasAs (segmentAt b k) dst) (class ∙ ap (λ s. if s then (if hasAs (segmentAt b k) dst then 2 else 1) else 0) t))
-    where
-      go : (s : Bool) → x ≡ (if s then 2 else 1) → ⊥
-      go true q = omega arith
-      go false q = omega arith
-
--- from the byte that tells the first of equals
-module _ (b : List ℕ) (dst : IsdAsn) (k : ℕ) {x : ℕ} (first : x ≡ firstAt b k) where
-  pub class-other : x ≡ 0 → 0 ≡ classOf b dst k
-  unfolding classOf firstAt
-  class-other z = go (isFirst (segments b) (segmentAt b k)) first
-    where
-      go : (t : Bool) → x ≡ (if t then 1 else 0) → _≡_ {A = ℕ} 0 (if t then (if hasAs (segmentAt b k) dst then 2 else 1) else 0)
-      go true q = absurd (omega arith)
-      go false q = refl
-
-  pub class-by : {u : Bool} → (x ≡ 0 → ⊥) → u ≡ hasAs (segmentAt b k) dst → (if u then 2 else 1) ≡ classOf b dst k
-  unfolding classOf firstAt
-  class-by {u} d p = go (isFirst (segments b) (segmentAt b k)) first
-    where
-      go : (t : Bool) → x ≡ (if t then 1 else 0) → _≡_ {A = ℕ} (if u then 2 else 1) (if t then (if hasAs (segmentAt b k) dst then 2 else 1) else 0)
-      go true q = ap (λ y. if y then 2 else 1) p
-      go false q = absurd (d q)
+  pub arrives-none : (dst : IsdAsn) → cores b ≤ k → arrives b dst k ≡ false → firstHere ≡ true → hasAs (segmentAt b k) dst ≡ false
+  arrives-none dst h q t = arrives-by dst true false t (other-at b k h) ∙ q
 
 -- ---- what is found
 
@@ -278,6 +308,27 @@ module _ (b : List ℕ) (dst src : IsdAsn) (k : ℕ) where
       in-other r q i =
           ap (flatMap (chainsFrom b dst))
           (leaving-by false false false filled (other-at b k h) (tested ∙ q) ∙ ap (λ a. between (segmentAt b k) (AS src) (AS a)) (sym e) ∙ sym i)
+
+  -- no entry has the source's AS
+  other-none : cores b ≤ k → hasAs (segmentAt b k) src ≡ false → chainsIn b dst src (segmentAt b k) ≡ []
+  other-none h q = go (eqb (entryCount (segmentAt b k)) 0) refl
+    where
+      go : (t : Bool) → eqb (entryCount (segmentAt b k)) 0 ≡ t → chainsIn b dst src (segmentAt b k) ≡ []
+      go true e = in-empty _ refl (eqb-true _ 0 e)
+      go false e =
+          let some = eqb-false _ 0 e in
+          in-other _ refl some h _ refl false (sym (other-leaf (segmentAt b k) (other-at b k h) src q (omega arith))) Nothing refl
+          (unfold foundEdges in sym (none-leaves (segmentAt b k) (other-at b k h) src q))
+          ∙ of-nothing (chainsFrom b dst) Nothing refl
+
+  pub start-none : {x : ℕ} → x ≡ bit (begins b src k) → x ≤ 0 → firstHere b k ≡ true → chainsIn b dst src (segmentAt b k) ≡ []
+  start-none s l t = go (ltb k (cores b)) refl
+    where
+      go : (u : Bool) → ltb k (cores b) ≡ u → chainsIn b dst src (segmentAt b k) ≡ []
+      go true e = start-core b k src s (ltb-true _ _ e) l t
+      go false e =
+          let h : cores b ≤ k = ltb-false _ _ e in
+          other-none h (no-start b k src s l false (other-at b k h) t)
 
 -- ---- all
 

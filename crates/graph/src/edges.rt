@@ -1,7 +1,7 @@
 // The stored edges of one segment, worked out of the book where it lies: what it stores between two
 // vertices, and what it stores that leaves one.
 ghost use mathlib.Core.Path.{_≡_};
-ghost use mathlib.Core.Bool.{true, false, _&&_};
+ghost use mathlib.Core.Bool.{true, false, _&&_, _||_};
 ghost use Prim.Native.Nat.{_+_, _*_, _-_, _^_, _≤_, _<_};
 ghost use lib.ListN.{length, getD};
 ghost use Rattle.spec.specs.declared.IsdAsn.{IsdAsn};
@@ -232,14 +232,36 @@ fn find_as(book: &[u8], table: &[u16; PLACES], k: u8, a: IsdAsn, n: u8) -> u8
     i
 }
 
-// An entry has an AS.
-pub(crate) fn has_as(book: &[u8], table: &[u16; PLACES], k: u8, a: IsdAsn) -> bool
+// Which of two ASes the entries of a segment have.
+pub(crate) struct Ends {
+    pub src: bool,
+    pub dst: bool,
+}
+
+// Two ASes are one, or it was so before.
+fn or_same(before: bool, x: IsdAsn, a: IsdAsn) -> bool
+    ensures { λ r. ⌜ r ≡ (sameAs x a || before) ⌝ }
+{
+    if same_as(x, a) { true } else { before }
+}
+
+// An entry has the AS `src`, and one has `dst`. Every entry is looked at, so that the tests are no branches.
+pub(crate) fn ends_in(book: &[u8], table: &[u16; PLACES], k: u8, src: IsdAsn, dst: IsdAsn) -> Ends
     requires { ⌜ Ready (now book) (now table) ⌝ }
     requires { ⌜ k < segmentCount (now book) ⌝ }
-    ensures { λ r. ⌜ r ≡ hasAs (segmentAt (now (book .entry)) k) a ⌝ }
+    ensures { λ r. ⌜ (r .src ≡ hasAs (segmentAt (now (book .entry)) k) src) × (r .dst ≡ hasAs (segmentAt (now (book .entry)) k) dst) ⌝ }
 {
     let n = count_of(book, k);
-    find_as(book, table, k, a, n) < n
+    let mut a = false;
+    let mut b = false;
+    let mut i: u8 = 0;
+    while i < n {
+        let x = as_at(book, table, k, i);
+        a = or_same(a, x, src);
+        b = or_same(b, x, dst);
+        i += 1;
+    }
+    Ends { src: a, dst: b }
 }
 
 // ---- peers

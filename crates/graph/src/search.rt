@@ -4,7 +4,6 @@ ghost use mathlib.Core.Path.{_≡_};
 ghost use mathlib.Core.Bool.{false};
 ghost use mathlib.Core.List.{flatMap};
 ghost use Prim.Native.Nat.{_-_, _≤_, _<_};
-ghost use lib.Dec.{ltb};
 ghost use Rattle.spec.specs.Limits.{maxSegments};
 ghost use Rattle.spec.specs.Basics.{if_then_else_, range};
 ghost use Rattle.spec.specs.Book.{segmentAt, segments, segmentCount, cores};
@@ -14,9 +13,10 @@ ghost use Rattle.graph.specs.Search.{overFirsts, chainsFrom, triplesIn, 
 ghost use Rattle.graph.specs.Pushed.{Room, Pushes};
 ghost use Rattle.graph.specs.Ready.{Ready};
 ghost use Rattle.graph.specs.Firsts.{firstAt};
-ghost use Rattle.graph.specs.Prepared.{classOf, Planned, Prepared};
+ghost use Rattle.graph.specs.Prepared.{begins, arrives, Planned, Prepared};
 use crate::Found;
 use crate::edges;
+use crate::edges::Ends;
 use crate::edges::PLACES;
 use crate::firsts;
 use crate::slots;
@@ -25,16 +25,18 @@ use spec::IsdAsn;
 use spec::Limits;
 use spec::Vertex;
 
-// What is worked out before the search: the class of each position, and then, for each and for the one past the last,
-// the next position of class 2 from there on, by which the loops over last edges go.
+// What is worked out before the search: for each position 1 where chains may begin, else 0, and then, for each and for
+// the one past the last, the next position from there on where chains may arrive, by which the loops over last edges go.
 const NEXT: usize = Limits::SEGMENTS;
 
 const PLAN: usize = 2 * Limits::SEGMENTS + 1;
 
-// What the loops share: how many segments are core, how many there are, where chains arrive, how many slots there are.
+// What the loops share: how many segments are core, how many there are, where chains begin and arrive, how many slots
+// there are.
 struct Query {
     cores: u8,
     count: u8,
+    src: IsdAsn,
     dst: IsdAsn,
     slots: usize,
 }
@@ -76,7 +78,7 @@ fn triples(
     out: &mut [u8],
     start: usize,
 ) -> usize
-    requires { ⌜ Prepared (now book) (now table) (now plan) (q .dst) (q .cores) (q .count) ⌝ }
+    requires { ⌜ Prepared (now book) (now table) (now plan) (q .src) (q .dst) (q .cores) (q .count) ⌝ }
     requires { ⌜ Room (q .slots) start (now out) ⌝ }
     ensures { λ r. ⌜ Pushes (q .slots) (start, now (out .entry)) (r, now (out .exit)) (overFirsts (triplesIn (now (book .entry)) (q .dst) e f) (now (book .entry)) (q .cores) (q .count - q .cores)) ⌝ }
 {
@@ -105,7 +107,7 @@ fn across_with(
     out: &mut [u8],
     n: usize,
 ) -> usize
-    requires { ⌜ Prepared (now book) (now table) (now plan) (q .dst) (q .cores) (q .count) ⌝ }
+    requires { ⌜ Prepared (now book) (now table) (now plan) (q .src) (q .dst) (q .cores) (q .count) ⌝ }
     requires { ⌜ Room (q .slots) n (now out) ⌝ }
     ensures { λ r. ⌜ Pushes (q .slots) (n, now (out .entry)) (r, now (out .exit)) (acrossWith (now (book .entry)) (q .dst) e f) ⌝ }
 {
@@ -128,7 +130,7 @@ fn across_in(
     out: &mut [u8],
     n: usize,
 ) -> usize
-    requires { ⌜ Prepared (now book) (now table) (now plan) (q .dst) (q .cores) (q .count) ⌝ }
+    requires { ⌜ Prepared (now book) (now table) (now plan) (q .src) (q .dst) (q .cores) (q .count) ⌝ }
     requires { ⌜ k < q .cores ⌝ }
     requires { ⌜ e .core ≡ false ⌝ }
     requires { ⌜ Room (q .slots) n (now out) ⌝ }
@@ -151,7 +153,7 @@ fn across(
     out: &mut [u8],
     start: usize,
 ) -> usize
-    requires { ⌜ Prepared (now book) (now table) (now plan) (q .dst) (q .cores) (q .count) ⌝ }
+    requires { ⌜ Prepared (now book) (now table) (now plan) (q .src) (q .dst) (q .cores) (q .count) ⌝ }
     requires { ⌜ e .core ≡ false ⌝ }
     requires { ⌜ Room (q .slots) start (now out) ⌝ }
     ensures { λ r. ⌜ Pushes (q .slots) (start, now (out .entry)) (r, now (out .exit)) (overFirsts (chainsWith (now (book .entry)) (q .dst) e) (now (book .entry)) 0 (q .cores)) ⌝ }
@@ -203,7 +205,7 @@ fn pairs(
     out: &mut [u8],
     start: usize,
 ) -> usize
-    requires { ⌜ Prepared (now book) (now table) (now plan) (q .dst) (q .cores) (q .count) ⌝ }
+    requires { ⌜ Prepared (now book) (now table) (now plan) (q .src) (q .dst) (q .cores) (q .count) ⌝ }
     requires { ⌜ Room (q .slots) start (now out) ⌝ }
     ensures { λ r. ⌜ Pushes (q .slots) (start, now (out .entry)) (r, now (out .exit)) (overFirsts (chainsWith (now (book .entry)) (q .dst) e) (now (book .entry)) (q .cores) (q .count - q .cores)) ⌝ }
 {
@@ -231,7 +233,7 @@ fn chains_from(
     out: &mut [u8],
     n: usize,
 ) -> usize
-    requires { ⌜ Prepared (now book) (now table) (now plan) (q .dst) (q .cores) (q .count) ⌝ }
+    requires { ⌜ Prepared (now book) (now table) (now plan) (q .src) (q .dst) (q .cores) (q .count) ⌝ }
     requires { ⌜ Room (q .slots) n (now out) ⌝ }
     ensures { λ r. ⌜ Pushes (q .slots) (n, now (out .entry)) (r, now (out .exit)) (chainsFrom (now (book .entry)) (q .dst) e) ⌝ }
 {
@@ -257,7 +259,7 @@ fn chains_of(
     out: &mut [u8],
     n: usize,
 ) -> usize
-    requires { ⌜ Prepared (now book) (now table) (now plan) (q .dst) (q .cores) (q .count) ⌝ }
+    requires { ⌜ Prepared (now book) (now table) (now plan) (q .src) (q .dst) (q .cores) (q .count) ⌝ }
     requires { ⌜ Room (q .slots) n (now out) ⌝ }
     ensures { λ r. ⌜ Pushes (q .slots) (n, now (out .entry)) (r, now (out .exit)) (flatMap (chainsFrom (now (book .entry)) (q .dst)) (foundEdges found)) ⌝ }
 {
@@ -278,7 +280,7 @@ fn peer_chains(
     out: &mut [u8],
     start: usize,
 ) -> usize
-    requires { ⌜ Prepared (now book) (now table) (now plan) (q .dst) (q .cores) (q .count) ⌝ }
+    requires { ⌜ Prepared (now book) (now table) (now plan) (q .src) (q .dst) (q .cores) (q .count) ⌝ }
     requires { ⌜ k < segmentCount (now book) ⌝ }
     requires { ⌜ i < entryCount (segmentAt (now book) k) ⌝ }
     requires { ⌜ Room (q .slots) start (now out) ⌝ }
@@ -309,7 +311,7 @@ fn leaf_chains(
     out: &mut [u8],
     start: usize,
 ) -> usize
-    requires { ⌜ Prepared (now book) (now table) (now plan) (q .dst) (q .cores) (q .count) ⌝ }
+    requires { ⌜ Prepared (now book) (now table) (now plan) (q .src) (q .dst) (q .cores) (q .count) ⌝ }
     requires { ⌜ k < segmentCount (now book) ⌝ }
     requires { ⌜ count ≡ entryCount (segmentAt (now book) k) ⌝ }
     requires { ⌜ Room (q .slots) start (now out) ⌝ }
@@ -338,15 +340,15 @@ fn chains_in(
     plan: &[u8; PLAN],
     q: Query,
     k: u8,
-    src: IsdAsn,
     out: &mut [u8],
     n: usize,
 ) -> usize
-    requires { ⌜ Prepared (now book) (now table) (now plan) (q .dst) (q .cores) (q .count) ⌝ }
+    requires { ⌜ Prepared (now book) (now table) (now plan) (q .src) (q .dst) (q .cores) (q .count) ⌝ }
     requires { ⌜ k < segmentCount (now book) ⌝ }
     requires { ⌜ Room (q .slots) n (now out) ⌝ }
-    ensures { λ r. ⌜ Pushes (q .slots) (n, now (out .entry)) (r, now (out .exit)) (chainsIn (now (book .entry)) (q .dst) src (segmentAt (now (book .entry)) k)) ⌝ }
+    ensures { λ r. ⌜ Pushes (q .slots) (n, now (out .entry)) (r, now (out .exit)) (chainsIn (now (book .entry)) (q .dst) (q .src) (segmentAt (now (book .entry)) k)) ⌝ }
 {
+    let src = q.src;
     let count = edges::entry_count(book, k);
     if count == 0 {
         return n;
@@ -368,12 +370,11 @@ fn all_chains(
     table: &[u16; PLACES],
     plan: &[u8; PLAN],
     q: Query,
-    src: IsdAsn,
     out: &mut [u8],
 ) -> usize
-    requires { ⌜ Prepared (now book) (now table) (now plan) (q .dst) (q .cores) (q .count) ⌝ }
+    requires { ⌜ Prepared (now book) (now table) (now plan) (q .src) (q .dst) (q .cores) (q .count) ⌝ }
     requires { ⌜ Room (q .slots) 0 (now out) ⌝ }
-    ensures { λ r. ⌜ Pushes (q .slots) (0, now (out .entry)) (r, now (out .exit)) (overFirsts (chainsIn (now (book .entry)) (q .dst) src) (now (book .entry)) 0 (q .count)) ⌝ }
+    ensures { λ r. ⌜ Pushes (q .slots) (0, now (out .entry)) (r, now (out .exit)) (overFirsts (chainsIn (now (book .entry)) (q .dst) (q .src)) (now (book .entry)) 0 (q .count)) ⌝ }
 {
     let mut n: usize = 0;
     let mut k: u8 = 0;
@@ -382,45 +383,51 @@ fn all_chains(
             return n;
         }
         if 0 < plan[k as usize] {
-            n = chains_in(book, table, plan, q, k, src, out, n);
+            n = chains_in(book, table, plan, q, k, out, n);
         }
         k += 1;
     }
     n
 }
 
-// 0 where the segment at k is not the first of its equals; where it is, 2 if an entry has the AS `dst`, else 1. A
-// non-core segment of class 1 has no edge that arrives.
-fn class_of(book: &[u8], table: &[u16; PLACES], k: u8, first: u8, dst: IsdAsn) -> u8
+// Where chains may begin and arrive: of equal segments only in the first. A core segment has no last edge that the plan
+// is asked for, and its entries are not looked at.
+fn ends_of(book: &[u8], table: &[u16; PLACES], q: Query, k: u8, first: u8) -> Ends
     requires { ⌜ Ready (now book) (now table) ⌝ }
     requires { ⌜ k < segmentCount (now book) ⌝ }
+    requires { ⌜ q .cores ≡ cores (now book) ⌝ }
     requires { ⌜ first ≡ firstAt (now book) k ⌝ }
-    ensures { λ r. ⌜ r ≡ classOf (now (book .entry)) dst k ⌝ }
+    ensures { λ r. ⌜ (r .src ≡ begins (now (book .entry)) (q .src) k) × (r .dst ≡ arrives (now (book .entry)) (q .dst) k) ⌝ }
 {
     if first == 0 {
-        return 0;
+        return Ends {
+            src: false,
+            dst: false,
+        };
     }
-    if edges::has_as(book, table, k, dst) {
-        return 2;
+    if k < q.cores {
+        return Ends {
+            src: true,
+            dst: false,
+        };
     }
-    1
+    edges::ends_in(book, table, k, q.src, q.dst)
 }
 
-// The next position of class 2, from k on: k itself, or that from the position after it.
-fn next_at(class: u8, k: u8, next: u8) -> u8
-    ensures { λ r. ⌜ r ≡ (if ltb 1 class then k else next) ⌝ }
+// The next position where chains may arrive, from k on: k itself, or that from the position after it.
+fn next_at(here: bool, k: u8, next: u8) -> u8
+    ensures { λ r. ⌜ r ≡ (if here then k else next) ⌝ }
 {
-    if 1 < class {
-        return k;
-    }
-    next
+    if here { k } else { next }
 }
 
-fn plan_of(book: &[u8], table: &[u16; PLACES], count: u8, dst: IsdAsn) -> [u8; PLAN]
+fn plan_of(book: &[u8], table: &[u16; PLACES], q: Query) -> [u8; PLAN]
     requires { ⌜ Ready (now book) (now table) ⌝ }
-    requires { ⌜ (count ≡ segmentCount (now book)) × (count ≤ maxSegments) ⌝ }
-    ensures { λ r. ⌜ Planned (now (book .entry)) dst count 0 r ⌝ }
+    requires { ⌜ (q .count ≡ segmentCount (now book)) × (q .count ≤ maxSegments) ⌝ }
+    requires { ⌜ q .cores ≡ cores (now book) ⌝ }
+    ensures { λ r. ⌜ Planned (now (book .entry)) (q .src) (q .dst) (q .count) 0 r ⌝ }
 {
+    let count = q.count;
     let firsts = firsts::firsts_of(book, table, count);
     let mut plan = [0u8; PLAN];
     plan[NEXT + (count as usize)] = count;
@@ -428,9 +435,9 @@ fn plan_of(book: &[u8], table: &[u16; PLACES], count: u8, dst: IsdAsn) -> [u8; P
     let mut k = count;
     while k > 0 {
         k -= 1;
-        let class = class_of(book, table, k, firsts[k as usize], dst);
-        next = next_at(class, k, next);
-        plan[k as usize] = class;
+        let ends = ends_of(book, table, q, k, firsts[k as usize]);
+        next = next_at(ends.dst, k, next);
+        plan[k as usize] = slots::bit(ends.src);
         plan[NEXT + (k as usize)] = next;
     }
     plan
@@ -454,12 +461,13 @@ pub(crate) fn search(
     }
     let sizes = segment::sizes(book);
     let count = (sizes.cores + sizes.others) as u8;
-    let plan = plan_of(book, table, count, dst);
     let q = Query {
         cores: sizes.cores as u8,
         count: count,
+        src: src,
         dst: dst,
         slots: slots,
     };
-    all_chains(book, table, &plan, q, src, out)
+    let plan = plan_of(book, table, q);
+    all_chains(book, table, &plan, q, out)
 }

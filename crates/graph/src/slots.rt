@@ -13,7 +13,7 @@ use spec::Edge;
 use spec::Solution;
 use spec::SolutionEdge;
 
-fn bit(b: bool) -> u8
+pub(crate) fn bit(b: bool) -> u8
     ensures { λ r. ⌜ r ≡ bit b ⌝ }
 {
     if b { 1 } else { 0 }

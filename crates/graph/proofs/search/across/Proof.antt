@@ -3,11 +3,11 @@
 use Prim.Native.Nat.{_≤_, _-_}
 use native.Mathlib.Omega.{arith}
 use mathlib.Core.Logic.{⊎-elim}
-use mathlib.Core.Path.{_≡_, refl, sym, ap, _∙_}
+use mathlib.Core.Path.{_≡_, refl, ap}
 use lib.ListN.{length}
 use Rattle.graph.specs.Search.{overFirsts, chainsWith}
 use Rattle.graph.proofs.PushedTurns.{Going, going-begin, going-end, going-full, turn-push, turn-pass}
-use Rattle.graph.proofs.SearchTurns.{over-start, class-first, class-none}
+use Rattle.graph.proofs.SearchTurns.{over-start, start-first, start-core}
 use Rattle.graph.proofs.SearchLaws.{over-turn, over-skip, over-end}
 use borrow.Author.Needs.{needs}
 use Rattle.graph.proofs.search.across.Statement.{statement}
@@ -40,8 +40,8 @@ loop-again c =
       omega arith,
       ⊎-elim (λ w. omega (arith, ap length (w .5))) (λ w. omega (arith, ap length (w .1))) (c .if3 .came),
       ⊎-elim
-          (λ w. turn-push (l .inv .2) (over-turn _ _ _ _ (omega arith) (class-first _ _ _ (p .planned .classes (l .k) (omega arith) (omega arith)) (omega arith))) (w .2 .ensures) (w .6) (w .5))
-          (λ w. turn-pass (l .inv .2) (over-skip _ _ _ _ (omega arith) (λ t. class-none _ _ _ (p .planned .classes (l .k) (omega arith) (omega arith)) (omega arith) t)) (w .2) (w .1))
+          (λ w. turn-push (l .inv .2) (over-turn _ _ _ _ (omega arith) (start-first _ _ _ (p .planned .starts (l .k) (omega arith) (omega arith)) (omega arith))) (w .2 .ensures) (w .6) (w .5))
+          (λ w. turn-pass (l .inv .2) (over-skip _ _ _ _ (omega arith) (λ t. start-core _ _ _ (p .planned .starts (l .k) (omega arith) (omega arith)) (omega arith) (omega arith) t)) (w .2) (w .1))
           (c .if3 .came),
     )
 

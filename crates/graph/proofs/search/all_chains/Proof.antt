@@ -3,23 +3,23 @@
 use Prim.Native.Nat.{_≤_, _-_}
 use native.Mathlib.Omega.{arith}
 use mathlib.Core.Logic.{⊎-elim}
-use mathlib.Core.Path.{_≡_, refl, sym, ap, _∙_}
+use mathlib.Core.Path.{_≡_, refl, ap}
 use lib.ListN.{length}
 use Rattle.graph.specs.Search.{overFirsts, chainsIn}
 use Rattle.graph.proofs.PushedTurns.{Going, going-begin, going-end, going-full, turn-push, turn-pass}
-use Rattle.graph.proofs.SearchTurns.{over-start, class-first, class-none}
+use Rattle.graph.proofs.SearchTurns.{over-start, start-first, start-none}
 use Rattle.graph.proofs.SearchLaws.{over-turn, over-skip, over-end}
 use borrow.Author.Needs.{needs}
 use Rattle.graph.proofs.search.all_chains.Statement.{statement}
 use Rattle.graph.proofs.search.all_chains.Tie as tie
 
 abbrev Inv-loop : tie.InvT-loop
-Inv-loop book table plan q src out₀ n₀ k₀ out n k =
+Inv-loop book table plan q out₀ n₀ k₀ out n k =
     (k ≤ q .count) × (length out ≡ length out₀)
-    × Going (q .slots) (0, out₀) (n, out) (overFirsts (chainsIn book (q .dst) src) book 0 (q .count)) (overFirsts (chainsIn book (q .dst) src) book k (q .count - k))
+    × Going (q .slots) (0, out₀) (n, out) (overFirsts (chainsIn book (q .dst) (q .src)) book 0 (q .count)) (overFirsts (chainsIn book (q .dst) (q .src)) book k (q .count - k))
 
 abbrev μ-loop : tie.MeasureT-loop
-μ-loop book table plan q src out₀ n₀ k₀ out n k = q .count - k
+μ-loop book table plan q out₀ n₀ k₀ out n k = q .count - k
 
 loop-holds : tie.Need-loop-holds Inv-loop μ-loop
 loop-holds c = (omega arith, refl, going-begin (omega arith) (over-start _ _ _))
@@ -40,8 +40,8 @@ loop-again c =
       omega arith,
       ⊎-elim (λ w. omega (arith, ap length (w .5))) (λ w. omega (arith, ap length (w .1))) (c .if3 .came),
       ⊎-elim
-          (λ w. turn-push (l .inv .2) (over-turn _ _ _ _ (omega arith) (class-first _ _ _ (p .planned .classes (l .k) (omega arith) (omega arith)) (omega arith))) (w .2 .ensures) (w .6) (w .5))
-          (λ w. turn-pass (l .inv .2) (over-skip _ _ _ _ (omega arith) (λ t. class-none _ _ _ (p .planned .classes (l .k) (omega arith) (omega arith)) (omega arith) t)) (w .2) (w .1))
+          (λ w. turn-push (l .inv .2) (over-turn _ _ _ _ (omega arith) (start-first _ _ _ (p .planned .starts (l .k) (omega arith) (omega arith)) (omega arith))) (w .2 .ensures) (w .6) (w .5))
+          (λ w. turn-pass (l .inv .2) (over-skip _ _ _ _ (omega arith) (λ t. start-none _ _ _ _ (p .planned .starts (l .k) (omega arith) (omega arith)) (omega arith) t)) (w .2) (w .1))
           (c .if3 .came),
     )
 

@@ -14,34 +14,34 @@ returns c = pushes-none (omega arith) (in-empty _ _ _ _ _ (c .before .entry-coun
 
 core-leaving-requires : tie.Need-core-leaving-requires
 core-leaving-requires c κs =
-    let p = c .before .before .before .before .before .before .pre in
+    let p = c .before .before .before .before .before .before .before .pre in
     (p .0 .ready, (p .1 .0, core-at _ _ (omega arith)))
 
 returns-2 : tie.Need-returns-2
 returns-2 c =
-    let p = c .before .before .before .before .before .before .before .before .before .before .before .pre in
+    let p = c .before .before .before .before .before .before .before .before .before .before .before .before .pre in
     pushes-as (c .before .before .chains-of .ensures)
     (in-core _ _ _ _ _ (c .before .before .before .before .before .before .before .before .entry-count .ensures) (c .before .before .before .before .before .before .before .if1 .left) _ (omega arith) (c .before .before .before .before .core-leaving .ensures))
 
 cast-leaf-chains : tie.Need-cast-leaf-chains
 cast-leaf-chains c =
-    let p = c .before .before .before .before .before .before .before .before .before .pre in
+    let p = c .before .before .before .before .before .before .before .before .before .before .pre in
     omega (arith, entries-few _ (p .0 .ready .ok) _ (p .1 .0), c .before .before .before .before .before .before .entry-count .ensures)
 
 leaf-chains-requires : tie.Need-leaf-chains-requires
 leaf-chains-requires c κs =
-    let p = c .before .before .before .before .before .before .before .before .before .before .pre in
+    let p = c .before .before .before .before .before .before .before .before .before .before .before .pre in
     (p .0, (p .1 .0, (c .before .before .before .before .before .before .before .entry-count .ensures, record { room = omega arith; most = omega arith })))
 
 returns-3 : tie.Need-returns-3
 returns-3 c =
-    let p = c .before .before .before .before .before .before .before .before .before .before .before .before .before .pre in
+    let p = c .before .before .before .before .before .before .before .before .before .before .before .before .before .before .pre in
     pushes-as (c .before .before .leaf-chains .ensures)
     (in-leaf _ _ _ _ _ (c .before .before .before .before .before .before .before .before .before .before .entry-count .ensures) (c .before .before .before .before .before .before .before .before .before .if1 .left) (omega arith) _ (c .before .before .before .before .before .before .leaf-as .ensures) _ (c .before .before .before .before .before .same-as .ensures) _ refl (c .before .before .before .before .if3 .taken))
 
 returns-4 : tie.Need-returns-4
 returns-4 c =
-    let p = c .before .before .before .before .before .before .before .before .before .before .before .before .before .before .pre in
+    let p = c .before .before .before .before .before .before .before .before .before .before .before .before .before .before .before .pre in
     pushes-as (c .before .before .chains-of2 .ensures)
     (in-other _ _ _ _ _ (c .before .before .before .before .before .before .before .before .before .before .before .entry-count .ensures) (c .before .before .before .before .before .before .before .before .before .before .if1 .left) (omega arith) _ (c .before .before .before .before .before .before .before .leaf-as .ensures) _ (c .before .before .before .before .before .before .same-as .ensures) _ (c .before .before .before .before .before .if3 .left) (c .before .before .before .before .between .ensures))
 

@@ -13,30 +13,28 @@ use Rattle.graph.proofs.search.plan_of.Statement.{statement}
 use Rattle.graph.proofs.search.plan_of.Tie as tie
 
 abbrev Inv-loop : tie.InvT-loop
-Inv-loop book table count dst firsts plan₀ next₀ k₀ plan next k = (k ≤ count) × (length plan ≡ 2 * maxSegments + 1) × (next ≡ firstWith (arrives book dst) k (count - k)) × Planned book dst count k plan
+Inv-loop book table q count firsts plan₀ next₀ k₀ plan next k = (k ≤ count) × (length plan ≡ 2 * maxSegments + 1) × (next ≡ firstWith (arrives book (q .dst)) k (count - k)) × Planned book (q .src) (q .dst) count k plan
 
 abbrev μ-loop : tie.MeasureT-loop
-μ-loop book table count dst firsts plan₀ next₀ k₀ plan next k = k
+μ-loop book table q count firsts plan₀ next₀ k₀ plan next k = k
 
 loop-holds : tie.Need-loop-holds Inv-loop μ-loop
 loop-holds c =
-    let few = c .before .before .pre .1 .1 in
-    (omega arith, simp length-set, next-end _ _ _ few, plan-start _ _ _ few (replicate (2 * maxSegments + 1) 0) refl)
+    let few = c .before .before .pre .1 .0 .1 in
+    (omega arith, simp length-set, next-end _ _ _, plan-start _ _ _ _ few (replicate (2 * maxSegments + 1) 0) refl)
 
-class-of-requires : tie.Need-class-of-requires Inv-loop μ-loop
-class-of-requires c κs =
+ends-of-requires : tie.Need-ends-of-requires Inv-loop μ-loop
+ends-of-requires c κs =
     let p = c .before .before .before .before .pre in
-    (p .0, (omega arith, c .before .before .firsts-of .ensures .told _ (omega arith)))
+    (p .0, (omega arith, (p .1 .1, c .before .before .firsts-of .ensures .told _ (omega arith))))
 
 loop-again : tie.Need-loop-again Inv-loop μ-loop
 loop-again c =
-    let l = c .before .before .before .loop in
-    let few = c .before .before .before .before .before .before .pre .1 .1 in (
-      omega arith,
-      simp length-set (l .inv .1),
-      next-turn _ _ _ few (l .k) (omega arith) (omega arith) (c .before .class-of .ensures) (l .inv .2) (c .next-at .ensures),
-      plan-turn _ _ _ few (l .k) (omega arith) (omega arith) (c .before .class-of .ensures) (l .inv .2) (c .next-at .ensures) (l .plan) (l .inv .1) (l .inv .3),
-    )
+    let l = c .before .before .before .before .loop in
+    let ends = c .before .before .ends-of .ensures in
+    let few = c .before .before .before .before .before .before .before .pre .1 .0 .1 in
+    let next = next-turn _ _ _ (l .k) (omega arith) (omega arith) (ends .1) (l .inv .2) (c .before .next-at .ensures) in
+    (omega arith, simp length-set (l .inv .1), next, plan-turn _ _ _ _ few (l .plan) (l .inv .1) (l .k) (omega arith) (omega arith) (ends .0) (c .bit .ensures) next (l .inv .3))
 
 returns : tie.Need-returns Inv-loop μ-loop
 returns c = plan-all (c .before .loop .inv .3) (omega arith)
@@ -50,11 +48,13 @@ plan-of-spec =
     (λ c κs. search needs)
     (λ c. search needs)
     (λ c. search needs)
+    (λ c. search needs)
     loop-holds
     (λ c. search needs)
     (λ c. search needs)
     (λ c. search needs)
-    class-of-requires
+    ends-of-requires
+    (λ c κs. search needs)
     (λ c κs. search needs)
     (λ c. search needs)
     (λ c. search needs)

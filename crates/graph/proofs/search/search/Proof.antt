@@ -23,23 +23,23 @@ cast-count c =
     let z = counted _ (p .0 .ok) _ (c .before .sizes .ensures) in
     omega arith
 
+cast-t13 : tie.Need-cast-t13
+cast-t13 c =
+    let p = c .before .before .before .before .before .before .before .pre in
+    let z = counted _ (p .0 .ok) _ (c .before .before .sizes .ensures) in
+    omega arith
+
 plan-of-requires : tie.Need-plan-of-requires
 plan-of-requires c κs =
-    let p = c .before .before .before .before .before .before .pre in
-    let z = counted _ (p .0 .ok) _ (c .before .sizes .ensures) in
-    (p .0, (z .count, z .small))
-
-cast-t14 : tie.Need-cast-t14
-cast-t14 c =
-    let p = c .before .before .before .before .before .before .before .before .pre in
-    let z = counted _ (p .0 .ok) _ (c .before .before .before .sizes .ensures) in
-    omega arith
+    let p = c .before .before .before .before .before .before .before .pre in
+    let z = counted _ (p .0 .ok) _ (c .before .before .sizes .ensures) in
+    (p .0, ((z .count, z .small), z .cores))
 
 all-chains-requires : tie.Need-all-chains-requires
 all-chains-requires c κs =
     let p = c .before .before .before .before .before .before .before .before .before .before .pre in
     let z = counted _ (p .0 .ok) _ (c .before .before .before .before .before .sizes .ensures) in (
-      record { ready = p .0; planned = c .before .before .before .plan-of .ensures; cores = z .cores; count = z .count; within = omega arith; small = z .small },
+      record { ready = p .0; planned = c .before .before .plan-of .ensures; cores = z .cores; count = z .count; within = omega arith; small = z .small },
       record { room = omega arith; most = omega arith },
     )
 
@@ -58,8 +58,8 @@ search-spec =
     (λ c κs. search needs)
     add-count
     cast-count
+    cast-t13
     plan-of-requires
-    cast-t14
     all-chains-requires
     (λ c. search needs)
     returns-2)
