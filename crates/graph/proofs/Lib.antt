@@ -2,6 +2,7 @@ pub mod LookupScan
 pub mod LookupLaws
 pub mod LeavingLaws
 pub mod LookupReads
+pub mod AlikeLaws
 pub mod IdentityLaws
 pub mod SearchLists
 pub mod SearchLaws

@@ -6,6 +6,7 @@ pub mod Link
 pub mod Prepared
 pub mod Search
 pub mod Pushed
+pub mod Alike
 pub mod Identity
 pub mod Recorded
 pub mod Named

@@ -15,6 +15,7 @@ ghost use Rattle.graph.specs.Recorded.{saidBy, recorded, recordedChains}
 ghost use Rattle.graph.specs.Named.{ahead, withIdentities, leadsBy, isWay, passing};
 use crate::Chain;
 use crate::Found;
+use crate::alike;
 use crate::edges;
 use crate::slots;
 use book::PLACES;
@@ -73,7 +74,10 @@ fn edge_of(book: &[u8], table: &[u16; PLACES], id: SolutionEdge) -> Found
     if sizes.cores + sizes.others <= (id.position as u16) {
         return Found::Nothing;
     }
-    if !equal::is_first(book, id.position) {
+    if edges::count_of(book, id.position) == 0 {
+        return Found::Nothing;
+    }
+    if !alike::is_first(book, table, id.position) {
         return Found::Nothing;
     }
     edges::stored_edge(book, table, id)

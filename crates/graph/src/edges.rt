@@ -126,7 +126,7 @@ fn wide64(x: u32) -> u64
     x as u64
 }
 
-fn pair_within(book: &[u8], at: usize) -> u16
+pub(crate) fn pair_within(book: &[u8], at: usize) -> u16
     requires { ⌜ at + 2 ≤ length (now book) ⌝ }
     ensures { λ r. ⌜ r ≡ be16 (now (book .entry)) at ⌝ }
 {
@@ -171,7 +171,7 @@ pub(crate) fn entry_count(book: &[u8], k: u8) -> usize
 const COUNT: usize = Sizes::SIZE + 7;
 
 // The same in an accepted book, where it fits its low byte.
-fn count_of(book: &[u8], k: u8) -> u8
+pub(crate) fn count_of(book: &[u8], k: u8) -> u8
     requires { ⌜ verdict (now book) ≡ Accepted ⌝ }
     requires { ⌜ k < segmentCount (now book) ⌝ }
     ensures { λ r. ⌜ (r ≡ entryCount (segmentAt (now (book .entry)) k)) × (r ≤ maxEntries) ⌝ }
@@ -179,7 +179,7 @@ fn count_of(book: &[u8], k: u8) -> u8
     book[COUNT + Head::SIZE * (k as usize)]
 }
 
-fn wide(x: u16) -> usize
+pub(crate) fn wide(x: u16) -> usize
     ensures { λ r. ⌜ (r ≡ x) × (r < 2 ^ 16) ⌝ }
 {
     x as usize
