@@ -4,6 +4,7 @@ pub mod LeavingLaws
 pub mod LookupReads
 pub mod AlikeLaws
 pub mod IdentityLaws
+pub mod NamedReads
 pub mod SearchLists
 pub mod SearchLaws
 pub mod SearchFound

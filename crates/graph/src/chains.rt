@@ -17,6 +17,7 @@ use crate::Chain;
 use crate::Found;
 use crate::alike;
 use crate::edges;
+use crate::named;
 use crate::slots;
 use book::PLACES;
 use spec::Edge;
@@ -80,7 +81,7 @@ fn edge_of(book: &[u8], table: &[u16; PLACES], id: SolutionEdge) -> Found
     if !alike::is_first(book, table, id.position) {
         return Found::Nothing;
     }
-    edges::stored_edge(book, table, id)
+    named::stored_edge(book, table, id)
 }
 
 // ---- edges in a row

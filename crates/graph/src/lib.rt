@@ -11,6 +11,7 @@ ghost use Rattle.graph.specs.Ready.{Ready};
 mod alike;
 mod chains;
 mod edges;
+mod named;
 mod search;
 mod slots;
 
