@@ -2,9 +2,9 @@ pub mod LookupScan
 pub mod LookupLaws
 pub mod LeavingLaws
 pub mod LookupReads
-pub mod AlikeLaws
 pub mod IdentityLaws
 pub mod NamedReads
+pub mod AlikeLaws
 pub mod SearchLists
 pub mod SearchLaws
 pub mod SearchFound
@@ -18,4 +18,5 @@ pub mod ListLaws
 pub mod NamedLaws
 pub mod NamedPlaces
 pub mod RecordedLaws
+pub mod RecordWords
 pub mod NamedTurns

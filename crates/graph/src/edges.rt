@@ -117,7 +117,7 @@ fn wide32(x: u8) -> u32
     x as u32
 }
 
-fn wide64(x: u32) -> u64
+pub(crate) fn wide64(x: u32) -> u64
     ensures { λ r. ⌜ (r ≡ x) × (r < 2 ^ 32) ⌝ }
 {
     x as u64
@@ -131,7 +131,7 @@ pub(crate) fn pair_within(book: &[u8], at: usize) -> u16
 }
 
 // Four bytes. The compiler makes one load of a flat sum.
-fn half_within(book: &[u8], at: usize) -> u32
+pub(crate) fn half_within(book: &[u8], at: usize) -> u32
     requires { ⌜ at + 4 ≤ length (now book) ⌝ }
     ensures { λ r. ⌜ r ≡ be32 (now (book .entry)) at ⌝ }
 {
