@@ -9,8 +9,8 @@ use mathlib.Core.Logic.{_⊎_, inl, inr, ⊎-elim}
 use mathlib.Core.Bool.{Bool, true, false, _&&_, not}
 use mathlib.Core.List.{List, [], _∷_, reverse, List·Memᴰ as Mem, List·Memᴰ·head as head, List·Memᴰ·tail as tail, List·Memᴰ·not-nil as not-nil, List·Memᴰ·cases-cons as cases-cons, List·Memᴰ·append-cases as append-cases}
 use lib.ListN.{length}
-use lib.Dec.{ltb, eqb}
-use borrow.Author.Tests.{eqb-true, eqb-false, ltb-true, ltb-false, lt-ltb, le-ltb, ne-eqb, eq-eqb}
+use lib.Dec.{eqb}
+use borrow.Author.Tests.{eqb-true, ltb-true, ne-eqb, eq-eqb}
 use Rattle.spec.specs.declared.IsdAsn.{IsdAsn}
 use Rattle.spec.specs.declared.Vertex.{Vertex}
 use Rattle.spec.specs.declared.Vertex.the-variants.{AS}
@@ -18,20 +18,21 @@ use Rattle.spec.specs.declared.Edge.{Edge}
 use Rattle.spec.specs.declared.SolutionEdge.{SolutionEdge}
 use Rattle.spec.specs.Basics.{if_then_else_, range, Once}
 use Rattle.spec.specs.Book.{Segment}
-use Rattle.spec.specs.Edges.{sameVertex, sameBool, asOf, leafAs, inConstruction, edgeOf, asInsertions, peerInsertions, entryInsertions, insertions, storedOf}
+use Rattle.spec.specs.Edges.{sameAs, sameVertex, sameBool, entryOf, asOf, leafAs, inConstruction, edgeOf, asInsertions, peerInsertions, entryInsertions, insertions, storedOf}
 use Rattle.spec.specs.Order.{solutionEdge}
 use Rattle.spec.proofs.Membership.{and-true, not-both, filter-mem, mem-filter, flatMap-mem, once-filter}
 use Rattle.spec.proofs.Vertices.{sameVertex-eq, sameVertex-refl}
-use Rattle.spec.proofs.OnceLaws.{lasting-mem, once-lasting, Inserted, inserted}
+use Rattle.spec.proofs.OnceLaws.{lasting-mem, once-lasting, inserted}
 use Rattle.graph.specs.declared.Found.{Found}
 use Rattle.graph.specs.declared.Found.the-variants.{Edge as FoundEdge, Nothing}
 use Rattle.graph.specs.Lookup.{between, foundEdges}
-use Rattle.graph.specs.Leaving.{entryCount, peerCountOf, linkOf, peerUp}
+use Rattle.graph.specs.Leaving.{entryCount, peerCountOf, linkOf, asStands, peerUp}
+use Rattle.graph.specs.Scan.{entryWith, asEdgeAt}
 use Rattle.graph.specs.declared.edges.Link.{Link}
 use Rattle.graph.specs.Link.{endOf, farEndOf}
-use Rattle.graph.specs.Identity.{sameIdentity, hasIdentity, identified, farLinkOf, asNamed, peerNamed, named}
-use Rattle.graph.proofs.LookupLaws.{as-not-peering, one-is, stored-between, between-stored, as-other, as-leaf, peer-two, entry-parts, insertions-other, insertions-core, core-none}
-use Rattle.graph.proofs.LeavingLaws.{peer-up-mem, peer-stored, peer-given, between-mem}
+use Rattle.graph.specs.Identity.{sameIdentity, hasIdentity, identified, farLinkOf, peerNamed}
+use Rattle.graph.proofs.LookupLaws.{as-not-peering, one-is, stored-between, between-stored, as-other, as-leaf, peer-two, entry-parts, insertions-other, insertions-core, core-none, up-as, down-as}
+use Rattle.graph.proofs.LeavingLaws.{peer-up-mem, peer-stored, peer-given, between-mem, as-edge-one, as-first}
 
 -- ---- identities
 
@@ -137,14 +138,15 @@ module _ (seg : Segment) where
     up : (a i q : ℕ) → e ≡ edgeOf seg leaf (upEnd i q) a i q → Shape e
     down : (a i q : ℕ) → e ≡ edgeOf seg (downEnd i q) leaf a i q → Shape e
 
-  core-shape : seg .core ≡ true → {e : Edge} → Mem e (insertions seg) → Shape e × (e .peer ≡ 0)
+  core-shape : seg .core ≡ true → {e : Edge} → Mem e (insertions seg) → Shape e × (e .shortcut ≡ 0) × (e .peer ≡ 0)
   unfolding edgeOf
   core-shape c {e} m = go (ℕ-discrete (entryCount seg) 0)
     where
-      go : Dec (entryCount seg ≡ 0) → Shape e × (e .peer ≡ 0)
+      go : Dec (entryCount seg ≡ 0) → Shape e × (e .shortcut ≡ 0) × (e .peer ≡ 0)
       go (yes h) = absurd (not-nil (subst (Mem e) (core-none seg c h) m))
       go (no h) =
-          ⊎-elim (λ q. (down _ 0 0 q, ap (λ (x : Edge). x .peer) q)) (λ q. (up _ 0 0 q, ap (λ (x : Edge). x .peer) q))
+          ⊎-elim (λ q. (down _ 0 0 q, ap (λ (x : Edge). x .shortcut) q, ap (λ (x : Edge). x .peer) q))
+          (λ q. (up _ 0 0 q, ap (λ (x : Edge). x .shortcut) q, ap (λ (x : Edge). x .peer) q))
           (two _ _ (subst (Mem e) (insertions-core seg c h) m))
 
   as-shape : (i : ℕ) {e : Edge} → Mem e (asInsertions seg i) → Shape e
@@ -246,17 +248,82 @@ module _ (seg : Segment) where
       one-is e (identified seg (solutionEdge e)) (identified-one (solutionEdge e))
       (unfold identified in mem-filter (hasIdentity (solutionEdge e)) (storedOf seg) m (own-identity e))
 
-  -- ---- where it stands
+  -- an edge by its ends
+  pub between-identified : (id : SolutionEdge) (v w : Vertex) (e : Edge) → e ∷ [] ≡ between seg v w → solutionEdge e ≡ id → e ∷ [] ≡ identified seg id
+  between-identified id v w e p q =
+      sym (subst (λ d. identified seg d ≡ e ∷ []) q (stored-identified e (between-stored seg v w (subst (Mem e) p (head refl)) .0)))
 
-  as-stored : (i : ℕ) (t : Bool) {e : Edge} → Mem e (asNamed seg i t) → Mem e (storedOf seg)
-  unfolding asNamed
-  as-stored i true m = between-stored seg (AS (asOf seg i)) leaf m .0
-  as-stored i false m = between-stored seg leaf (AS (asOf seg i)) m .0
+  -- ---- identities that no edge has
 
-  stored-as : (i : ℕ) (t : Bool) {e : Edge} → Mem e (storedOf seg) → Ends i 0 t e → Mem e (asNamed seg i t)
-  unfolding asNamed
-  stored-as i true m x = between-mem seg (AS (asOf seg i)) leaf m (x .0) (x .1)
-  stored-as i false m x = between-mem seg leaf (AS (asOf seg i)) m (x .0) (x .1)
+  none-identified : (id : SolutionEdge) → ((e : Edge) → Mem e (storedOf seg) → solutionEdge e ≡ id → ⊥) → [] ≡ identified seg id
+  none-identified id h = sym (none-in (identified seg id) (λ e m. let w = identified-mem id m in h e (w .0) (w .1)))
+
+  -- what an identity says of its edge
+  said : (id : SolutionEdge) (e : Edge) → solutionEdge e ≡ id → (e .shortcut ≡ id .shortcut) × (e .peer ≡ id .peer) × (e .construction ≡ id .construction)
+  unfolding solutionEdge
+  said id e q = (ap (λ (d : SolutionEdge). d .shortcut) q, ap (λ (d : SolutionEdge). d .peer) q, ap (λ (d : SolutionEdge). d .construction) q)
+
+  module _ (id : SolutionEdge) where
+    pub past-entries : entryCount seg ≤ id .shortcut → [] ≡ identified seg id
+    unfolding entryCount
+    past-entries h = none-identified id (λ e m q. omega (arith, said id e q .0, inserted seg (stored-inserted m) .shortcut))
+
+    pub past-peers : peerCountOf seg (id .shortcut) < id .peer → [] ≡ identified seg id
+    unfolding peerCountOf
+    past-peers h =
+        none-identified id (λ e m q.
+        let w = said id e q in
+        let l : e .peer ≤ length (entryOf seg (id .shortcut) .peers) =
+        subst (λ i. e .peer ≤ length (entryOf seg i .peers)) (w .0) (inserted seg (stored-inserted m) .peer) in
+        omega (arith, w .1))
+
+    pub core-shortcut : seg .core ≡ true → 0 < id .shortcut → [] ≡ identified seg id
+    core-shortcut c h = none-identified id (λ e m q. omega (arith, said id e q .0, core-shape c (stored-inserted m) .1))
+
+    pub core-peer : seg .core ≡ true → 0 < id .peer → [] ≡ identified seg id
+    core-peer c h = none-identified id (λ e m q. omega (arith, said id e q .1, core-shape c (stored-inserted m) .2))
+
+  -- ---- AS edges
+
+  module _ (id : SolutionEdge) (no-peer : id .peer ≡ 0) where
+    abbrev here : Vertex
+    here = AS (asOf seg (id .shortcut))
+
+    as-ends : {t : Bool} → id .construction ≡ t → {e : Edge} → Mem e (storedOf seg) → solutionEdge e ≡ id → Ends (id .shortcut) 0 t e
+    as-ends d {e} m q =
+        subst (λ t. Ends (id .shortcut) 0 t e) d (subst (λ p. Ends (id .shortcut) p (id .construction) e) no-peer (ends-of id m q))
+
+    -- from the leaf to an entry of the leaf's AS: its edge is in construction direction
+    pub leaf-again : id .construction ≡ false → sameAs (asOf seg (id .shortcut)) (leafAs seg) ≡ true → [] ≡ identified seg id
+    leaf-again d h =
+        none-identified id (λ e m q.
+        not-both
+        (inserted seg (stored-inserted m) .direction ∙ ap (inConstruction seg) (as-ends d m q .1) ∙ (unfold inConstruction sameVertex in h))
+        (said id e q .2 ∙ d))
+
+    module _ (nc : seg .core ≡ false) where
+      -- the edge that an entry's AS finds is at the entry, which then stands
+      found-stands : (v w : Vertex) {e : Edge} → asEdgeAt seg v w (entryWith seg (asOf seg (id .shortcut)) (entryCount seg - 1)) ≡ e ∷ []
+          → e .shortcut ≡ id .shortcut → asStands seg (id .shortcut) ≡ true
+      unfolding edgeOf
+      found-stands v w {e} h s =
+          let r : ℕ = entryWith seg (asOf seg (id .shortcut)) (entryCount seg - 1) in
+          let x = as-edge-one seg v w r h in
+          let p : r ≡ id .shortcut = sym (ap (λ (y : Edge). y .shortcut) (x .1)) ∙ s in
+          subst (λ j. asStands seg j ≡ true) p (as-first seg (asOf seg (id .shortcut)) r refl (ltb-true _ _ (x .0)) .1)
+
+      pub fallen-none : asStands seg (id .shortcut) ≡ false → [] ≡ identified seg id
+      fallen-none f = none-identified id (λ e m q. not-both (stands e m q (id .construction) refl) f)
+        where
+          stands : (e : Edge) → Mem e (storedOf seg) → solutionEdge e ≡ id → (t : Bool) → id .construction ≡ t → asStands seg (id .shortcut) ≡ true
+          stands e m q true d =
+              let x = as-ends d m q in
+              found-stands here leaf (sym (down-as seg nc (asOf seg (id .shortcut))) ∙ sym (ap₂ (between seg) (x .0) (x .1)) ∙ stored-between seg e m) (said id e q .0)
+          stands e m q false d =
+              let x = as-ends d m q in
+              found-stands leaf here (sym (up-as seg nc (asOf seg (id .shortcut))) ∙ sym (ap₂ (between seg) (x .0) (x .1)) ∙ stored-between seg e m) (said id e q .0)
+
+  -- ---- peers' edges
 
   module _ (nc : seg .core ≡ false) (i p : ℕ) where
     peers-stored : i < entryCount seg → p < peerCountOf seg i → (t : Bool) {e : Edge} → Mem e (peerNamed seg i p t) → Mem e (storedOf seg)
@@ -270,17 +337,6 @@ module _ (seg : Segment) where
     unfolding peerNamed
     stored-peers true m s q x = between-mem seg (farLinkOf seg i p) leaf m (x .0) (x .1)
     stored-peers false m s q x = peer-given seg nc i p m (x .0) s q
-
-  abbrev as-either : ℕ → Bool → List Edge
-  as-either i t = if t then between seg (AS (asOf seg i)) leaf else between seg leaf (AS (asOf seg i))
-
-  pub as-down : (i : ℕ) {here last : IsdAsn} {t : Bool} → last ≡ leafAs seg → here ≡ asOf seg i → t ≡ true → between seg (AS here) (AS last) ≡ asNamed seg i t
-  unfolding asNamed
-  as-down i p q h = ap₂ (λ v w. between seg (AS v) (AS w)) q p ∙ ap (as-either i) (sym h)
-
-  pub as-up : (i : ℕ) {here last : IsdAsn} {t : Bool} → last ≡ leafAs seg → here ≡ asOf seg i → t ≡ false → between seg (AS last) (AS here) ≡ asNamed seg i t
-  unfolding asNamed
-  as-up i p q h = ap₂ (λ v w. between seg (AS v) (AS w)) p q ∙ ap (as-either i) (sym h)
 
   abbrev peer-either : ℕ → ℕ → Bool → List Edge
   peer-either i p t = if t then between seg (farLinkOf seg i p) leaf else peerUp seg i p
@@ -298,118 +354,44 @@ module _ (seg : Segment) where
   unfolding peerNamed
   peer-up i p h = ap (peer-either i p) (sym h)
 
-  -- what is looked up, by the tests
-  module _ (id : SolutionEdge) where
-    abbrev i : ℕ
-    i = id .shortcut
-
-    abbrev looked : Bool → Bool → Bool → Bool → List Edge
-    looked r z c o =
-        if not r then []
-        else if z then asNamed seg i (id .construction)
-        else if c then []
-        else if o then []
-        else peerNamed seg i (id .peer - 1) (id .construction)
-
-    named-is : (r z c o : Bool) → ltb i (entryCount seg) ≡ r → eqb (id .peer) 0 ≡ z → seg .core ≡ c → ltb (peerCountOf seg i) (id .peer) ≡ o
-        → named seg id ≡ looked r z c o
-    unfolding named
-    named-is r z c o p q s t =
-        ap₂ (λ x y. looked x y (seg .core) (ltb (peerCountOf seg i) (id .peer))) p q
-        ∙ ap₂ (λ x y. looked r z x y) s t
-
-    pub named-past : entryCount seg ≤ i → named seg id ≡ []
-    named-past h = named-is false _ _ _ (le-ltb i (entryCount seg) h) refl refl refl
-
-    module _ (l : i < entryCount seg) where
-      within : ltb i (entryCount seg) ≡ true
-      within = lt-ltb i (entryCount seg) l
-
-      pub named-as : id .peer ≡ 0 → named seg id ≡ asNamed seg i (id .construction)
-      named-as h = named-is true true _ _ within (eq-eqb (id .peer) 0 h) refl refl
-
-      module _ (n : id .peer ≡ 0 → ⊥) where
-        pub named-core : seg .core ≡ true → named seg id ≡ []
-        named-core c = named-is true false true _ within (ne-eqb (id .peer) 0 n) c refl
-
-        module _ (nc : seg .core ≡ false) where
-          pub named-over : peerCountOf seg i < id .peer → named seg id ≡ []
-          named-over h = named-is true false false true within (ne-eqb (id .peer) 0 n) nc (lt-ltb _ _ h)
-
-          pub named-peer : id .peer ≤ peerCountOf seg i → named seg id ≡ peerNamed seg i (id .peer - 1) (id .construction)
-          named-peer h = named-is true false false false within (ne-eqb (id .peer) 0 n) nc (le-ltb _ _ h)
-
-    named-stored : {e : Edge} → Mem e (named seg id) → Mem e (storedOf seg)
-    named-stored {e} m =
-        go (ltb i (entryCount seg)) refl (eqb (id .peer) 0) refl (seg .core) refl (ltb (peerCountOf seg i) (id .peer)) refl
-        (subst (Mem e) (named-is _ _ _ _ refl refl refl refl) m)
-      where
-        go : (r : Bool) → ltb i (entryCount seg) ≡ r → (z : Bool) → eqb (id .peer) 0 ≡ z → (c : Bool) → seg .core ≡ c → (o : Bool) → ltb (peerCountOf seg i) (id .peer) ≡ o
-            → Mem e (looked r z c o) → Mem e (storedOf seg)
-        go false p z q c s o t m = absurd (not-nil m)
-        go true p true q c s o t m = as-stored i (id .construction) m
-        go true p false q true s o t m = absurd (not-nil m)
-        go true p false q false s true t m = absurd (not-nil m)
-        go true p false q false s false t m =
-            let n = eqb-false (id .peer) 0 q in
-            let g : id .peer - 1 < peerCountOf seg i = omega (arith, ltb-false (peerCountOf seg i) (id .peer) t, n) in
-            peers-stored s i (id .peer - 1) (ltb-true i (entryCount seg) p) g (id .construction) m
-
-  own-named : (e : Edge) → Mem e (storedOf seg) → Mem e (named seg (solutionEdge e))
-  unfolding solutionEdge
-  own-named e m = go (e .peer) refl (ends m)
-    where
-      x : Inserted seg e
-      x = inserted seg (stored-inserted m)
-
-      l : e .shortcut < entryCount seg
-      l = unfold entryCount in x .shortcut
-
-      go : (q : ℕ) → e .peer ≡ q → Ends (e .shortcut) q (e .construction) e → Mem e (named seg (solutionEdge e))
-      go zero z y = subst (Mem e) (sym (named-as (solutionEdge e) l z)) (stored-as (e .shortcut) (e .construction) m y)
-      go (suc p) z y = other (seg .core) refl
-        where
-          n : e .peer ≡ 0 → ⊥
-          n h = omega arith
-
-          same : e .peer - 1 ≡ p
-          same = omega arith
-
-          other : (c : Bool) → seg .core ≡ c → Mem e (named seg (solutionEdge e))
-          other true c = absurd (n (core-shape c (stored-inserted m) .1))
-          other false c =
-              subst (Mem e)
-              (sym (named-peer (solutionEdge e) l n c (unfold peerCountOf in x .peer) ∙ ap (λ k. peerNamed seg (e .shortcut) k (e .construction)) same))
-              (stored-peers c (e .shortcut) p (e .construction) m refl (z ∙ sym (add-one p)) y)
-
-  -- ---- what is found
-
-  identified-named : (id : SolutionEdge) {e : Edge} → Mem e (identified seg id) → Mem e (named seg id)
-  identified-named id {e} m = let w = identified-mem id m in subst (λ d. Mem e (named seg d)) (w .1) (own-named e (w .0))
-
   found-in : {f : Found} {e : Edge} → f ≡ FoundEdge e → foundEdges f ≡ e ∷ []
   found-in q = unfold foundEdges in ap foundEdges q
 
-  module _ (id : SolutionEdge) {f : Found} (found : foundEdges f ≡ named seg id) where
-    pub found-nothing : f ≡ Nothing → [] ≡ identified seg id
-    found-nothing q =
-        sym (none-in (identified seg id) (λ e m. not-nil (subst (Mem e) (sym found ∙ none) (identified-named id m))))
-      where
-        none : foundEdges f ≡ []
-        none = unfold foundEdges in ap foundEdges q
+  module _ (id : SolutionEdge) (nc : seg .core ≡ false) (l : id .shortcut < entryCount seg) (some : 0 < id .peer) (few : id .peer ≤ peerCountOf seg (id .shortcut)) where
+    abbrev named : List Edge
+    named = peerNamed seg (id .shortcut) (id .peer - 1) (id .construction)
 
-    module _ {e : Edge} (at : f ≡ FoundEdge e) {x : SolutionEdge} (own : x ≡ solutionEdge e) {t : Bool} (same : t ≡ sameIdentity x id) where
-      has : t ≡ hasIdentity id e
-      unfolding hasIdentity
-      has = same ∙ ap (λ y. sameIdentity y id) own
+    named-stored : {e : Edge} → Mem e named → Mem e (storedOf seg)
+    named-stored m = peers-stored nc (id .shortcut) (id .peer - 1) l (omega arith) (id .construction) m
 
-      pub found-same : t ≡ true → e ∷ [] ≡ identified seg id
-      found-same h =
-          sym (subst (λ d. identified seg d ≡ e ∷ []) (has-identity id e (sym has ∙ h))
-          (stored-identified e (named-stored id (subst (Mem e) (sym (found-in at) ∙ found) (head refl)))))
+    identified-named : {e : Edge} → Mem e (identified seg id) → Mem e named
+    identified-named {e} m =
+        let w = identified-mem id m in
+        let s = said id e (w .1) in
+        let q : id .peer ≡ suc (id .peer - 1) = omega arith in
+        stored-peers nc (id .shortcut) (id .peer - 1) (id .construction) (w .0) (s .0) (omega (arith, s .1))
+        (subst (λ p. Ends (id .shortcut) p (id .construction) e) q (ends-of id (w .0) (w .1)))
 
-      pub found-other : t ≡ false → [] ≡ identified seg id
-      found-other h =
-          sym (none-in (identified seg id) (λ g m.
-          let q : g ≡ e = ⊎-elim (λ q. q) (λ l. absurd (not-nil l)) (cases-cons (subst (Mem g) (sym found ∙ found-in at) (identified-named id m))) in
-          not-both (ap (hasIdentity id) (sym q) ∙ (unfold identified in filter-mem (hasIdentity id) (storedOf seg) m .1)) (sym has ∙ h)))
+    module _ {f : Found} (found : foundEdges f ≡ named) where
+      pub found-nothing : f ≡ Nothing → [] ≡ identified seg id
+      found-nothing q =
+          sym (none-in (identified seg id) (λ e m. not-nil (subst (Mem e) (sym found ∙ none) (identified-named m))))
+        where
+          none : foundEdges f ≡ []
+          none = unfold foundEdges in ap foundEdges q
+
+      module _ {e : Edge} (at : f ≡ FoundEdge e) {x : SolutionEdge} (own : x ≡ solutionEdge e) {t : Bool} (same : t ≡ sameIdentity x id) where
+        has : t ≡ hasIdentity id e
+        unfolding hasIdentity
+        has = same ∙ ap (λ y. sameIdentity y id) own
+
+        pub found-same : t ≡ true → e ∷ [] ≡ identified seg id
+        found-same h =
+            sym (subst (λ d. identified seg d ≡ e ∷ []) (has-identity id e (sym has ∙ h))
+            (stored-identified e (named-stored (subst (Mem e) (sym (found-in at) ∙ found) (head refl)))))
+
+        pub found-other : t ≡ false → [] ≡ identified seg id
+        found-other h =
+            sym (none-in (identified seg id) (λ g m.
+            let q : g ≡ e = ⊎-elim (λ q. q) (λ l. absurd (not-nil l)) (cases-cons (subst (Mem g) (sym found ∙ found-in at) (identified-named m))) in
+            not-both (ap (hasIdentity id) (sym q) ∙ (unfold identified in filter-mem (hasIdentity id) (storedOf seg) m .1)) (sym has ∙ h)))

@@ -172,7 +172,7 @@ module _ (seg : Segment) where
   when-one : (t : Bool) (f : Edge) {e : Edge} → when t f ≡ e ∷ [] → (t ≡ true) × (e ≡ f)
   when-one t f {e} h = when-mem t f (subst (Mem e) (sym h) (head refl))
 
-  as-edge-one : (v w : Vertex) (i : ℕ) {e : Edge} → asEdgeAt seg v w i ≡ e ∷ []
+  pub as-edge-one : (v w : Vertex) (i : ℕ) {e : Edge} → asEdgeAt seg v w i ≡ e ∷ []
       → (ltb i (entryCount seg - 1) ≡ true) × (e ≡ edgeOf seg v w (entryCount seg - 1 - i) i 0)
   unfolding asEdgeAt
   as-edge-one v w i h = when-one (ltb i (entryCount seg - 1)) (edgeOf seg v w (entryCount seg - 1 - i) i 0) h
@@ -214,7 +214,7 @@ module _ (seg : Segment) where
       (true-and _ _ (ap not (is-last (isLink seg v r) p (peerCountOf seg r) l h)) (ap not none))
 
   -- the entry found stands
-  as-first : (a : IsdAsn) (r : ℕ) → entryWith seg a (entryCount seg - 1) ≡ r → r < entryCount seg - 1 → (asOf seg r ≡ a) × (asStands seg r ≡ true)
+  pub as-first : (a : IsdAsn) (r : ℕ) → entryWith seg a (entryCount seg - 1) ≡ r → r < entryCount seg - 1 → (asOf seg r ≡ a) × (asStands seg r ≡ true)
   unfolding entryWith asStands
   as-first a r h l =
       let p : isEntryOf seg a r ≡ true = subst (λ n. isEntryOf seg a n ≡ true) h (first-passes (isEntryOf seg a) 0 (entryCount seg - 1) (omega arith)) in
@@ -236,16 +236,20 @@ module _ (seg : Segment) where
       go zero e t = absurd (omega (arith, ltb-true 0 (peerLinked seg v r) t))
       go (suc p) e t = let s = peer-is v r p e in (p, s .0, e, s .1, stands v r p e (s .0) (s .1) none)
 
+  -- the first entry with the AS of an entry that stands is the entry
+  pub as-entry : (i : ℕ) → asStands seg i ≡ true → entryWith seg (asOf seg i) (entryCount seg - 1) ≡ i
+  unfolding asStands entryWith
+  as-entry i s =
+      let q = and-true (ltb i (entryCount seg - 1)) _ s in
+      first-is (isEntryOf seg (asOf seg i)) i (entryCount seg - 1) (ltb-true _ _ (q .0)) (entry-own i) (not-true _ (q .1))
+
   module _ (nc : seg .core ≡ false) where
     as-stored : (i : ℕ) → asStands seg i ≡ true → between seg leaf (AS (asOf seg i)) ≡ up-edge i ∷ []
-    unfolding asStands entryWith asEdgeAt
+    unfolding asStands asEdgeAt
     as-stored i s =
         let q = and-true (ltb i (entryCount seg - 1)) _ s in
-        let l : i < entryCount seg - 1 = ltb-true _ _ (q .0) in
-        let f : firstWith (isEntryOf seg (asOf seg i)) 0 (entryCount seg - 1) ≡ i =
-        first-is (isEntryOf seg (asOf seg i)) i (entryCount seg - 1) l (entry-own i) (not-true _ (q .1)) in
         up-as seg nc (asOf seg i)
-        ∙ ap (λ r. asEdgeAt seg leaf (AS (asOf seg i)) r) f
+        ∙ ap (λ r. asEdgeAt seg leaf (AS (asOf seg i)) r) (as-entry i s)
         ∙ ap (λ x. when x (up-edge i)) (q .0)
 
     -- up-link, at a peer's own peering end

@@ -5,6 +5,8 @@ pub mod LookupReads
 pub mod FirstsLaws
 pub mod JointLaws
 pub mod IdentityLaws
+pub mod NamedReads
+pub mod AlikeLaws
 pub mod SearchLists
 pub mod SearchLaws
 pub mod SearchFound
@@ -18,4 +20,5 @@ pub mod ListLaws
 pub mod NamedLaws
 pub mod NamedPlaces
 pub mod RecordedLaws
+pub mod RecordWords
 pub mod NamedTurns

@@ -582,25 +582,30 @@ module _ (seg : Segment) (i : ℕ) where
   unfolding asUp
   fallen h = sym (ap (λ x. when x (edgeOf seg (AS (leafAs seg)) (AS (asOf seg i)) (entryCount seg - 1 - i) i 0)) h)
 
-  pub up-leaf : {n : ℕ} → n ≡ entryCount seg → i ≡ n - 1 → [] ≡ asUp seg i
-  up-leaf count h =
-      fallen (stands-as ∙ ap (λ x. x && not (ltb (entryWith seg (asOf seg i) i) i)) (le-ltb i (entryCount seg - 1) (omega arith)))
+  pub leaf-falls : {n : ℕ} → n ≡ entryCount seg → i ≡ n - 1 → asStands seg i ≡ false
+  leaf-falls count h = stands-as ∙ ap (λ x. x && not (ltb (entryWith seg (asOf seg i) i) i)) (le-ltb i (entryCount seg - 1) (omega arith))
 
-  pub up-again : {x : IsdAsn} {j : ℕ} → x ≡ asOf seg i → j ≡ entryWith seg x i → j < i → [] ≡ asUp seg i
-  up-again here found h =
+  pub again-falls : {x : IsdAsn} {j : ℕ} → x ≡ asOf seg i → j ≡ entryWith seg x i → j < i → asStands seg i ≡ false
+  again-falls here found h =
       let e = found ∙ ap (λ y. entryWith seg y i) here in
-      fallen (stands-as ∙ ap (λ x. ltb i (entryCount seg - 1) && not x) (lt-ltb (entryWith seg (asOf seg i) i) i (omega arith)) ∙ and-no (ltb i (entryCount seg - 1)))
+      stands-as ∙ ap (λ x. ltb i (entryCount seg - 1) && not x) (lt-ltb (entryWith seg (asOf seg i) i) i (omega arith)) ∙ and-no (ltb i (entryCount seg - 1))
     where
       and-no : (x : Bool) → (x && false) ≡ false
       and-no true = refl
       and-no false = refl
 
-  as-stands : {x : IsdAsn} {j : ℕ} → i < entryCount seg - 1 → x ≡ asOf seg i → j ≡ entryWith seg x i → i ≤ j → asStands seg i ≡ true
+  pub up-leaf : {n : ℕ} → n ≡ entryCount seg → i ≡ n - 1 → [] ≡ asUp seg i
+  up-leaf count h = fallen (leaf-falls count h)
+
+  pub up-again : {x : IsdAsn} {j : ℕ} → x ≡ asOf seg i → j ≡ entryWith seg x i → j < i → [] ≡ asUp seg i
+  up-again here found h = fallen (again-falls here found h)
+
+  pub as-stands : {x : IsdAsn} {j : ℕ} → i < entryCount seg - 1 → x ≡ asOf seg i → j ≡ entryWith seg x i → i ≤ j → asStands seg i ≡ true
   as-stands below here found h =
       let e = found ∙ ap (λ y. entryWith seg y i) here in
       stands-as ∙ ap₂ (λ x y. x && not y) (lt-ltb i (entryCount seg - 1) below) (le-ltb (entryWith seg (asOf seg i) i) i (omega arith))
 
-below-leaf : (i n : ℕ) → i < n → (i ≡ n - 1 → ⊥) → i < n - 1
+pub below-leaf : (i n : ℕ) → i < n → (i ≡ n - 1 → ⊥) → i < n - 1
 below-leaf i n l h = go (ltb i (n - 1)) refl
   where
     go : (x : Bool) → ltb i (n - 1) ≡ x → i < n - 1

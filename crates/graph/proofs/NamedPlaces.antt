@@ -3,7 +3,7 @@
 use Prim.Native.Nat.{ℕ, _+_, _-_, _≤_, _<_}
 use native.Mathlib.Omega.{arith}
 use mathlib.Core.Path.{_≡_, refl, sym, ap, ap₂, _∙_}
-use mathlib.Core.Bool.{true, false, false≢true}
+use mathlib.Core.Bool.{Bool, true, false, false≢true}
 use mathlib.Core.List.{List, [], _++_, append-nil, List·Memᴰ as Mem}
 use Rattle.spec.specs.declared.Edge.{Edge}
 use Rattle.spec.specs.declared.SolutionEdge.{SolutionEdge}
@@ -12,8 +12,10 @@ use Rattle.spec.specs.Book.{Segment, segments, segmentAt, segmentCount}
 use Rattle.spec.specs.Edges.{insertions, isFirst, firsts, storedOf, storedEdges}
 use Rattle.spec.specs.Order.{solutionEdge}
 use Rattle.spec.proofs.OnceLaws.{inserted, lasting-mem, segment-position}
+use Rattle.graph.specs.Leaving.{entryCount}
 use Rattle.graph.specs.Identity.{hasIdentity, identified, identifiedIn}
 use Rattle.graph.specs.Search.{overFirsts}
+use Rattle.graph.proofs.LookupLaws.{none-stored}
 use Rattle.graph.proofs.IdentityLaws.{other-position}
 use Rattle.graph.proofs.SearchLists.{filter-append, filter-same, through}
 use Rattle.graph.proofs.SearchLaws.{over-firsts, over-turn, over-skip, over-split, over-none}
@@ -68,3 +70,11 @@ module _ (b : List ℕ) (id : SolutionEdge) where
     -- an equal segment stands before it
     pub identified-repeat : isFirst (segments b) (segmentAt b (id .position)) ≡ false → identifiedIn b id ≡ []
     identified-repeat q = from-position ∙ over-skip those b p (segmentCount b) h (λ t. absurd (false≢true (sym q ∙ t))) ∙ after-position
+
+    -- it has no entry
+    pub identified-empty : entryCount (segmentAt b (id .position)) ≡ 0 → identifiedIn b id ≡ []
+    identified-empty n = go (isFirst (segments b) (segmentAt b p)) refl
+      where
+        go : (t : Bool) → isFirst (segments b) (segmentAt b p) ≡ t → identifiedIn b id ≡ []
+        go true q = identified-first q ∙ unfold identified in ap (filter (hasIdentity id)) (none-stored (segmentAt b p) n) ∙ unfold filter in refl
+        go false q = identified-repeat q

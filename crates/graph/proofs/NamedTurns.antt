@@ -1,15 +1,11 @@
 -- The chain of a record, step by step: what each test and each edge that is looked up settles.
 -- Assumes nothing.
-use Prim.Native.Nat.{ℕ, suc, _+_, _-_, _≤_, _<_}
-use native.Mathlib.Omega.{arith}
-use native.Mathlib.Numerals.{add-one}
-use mathlib.Core.Path.{_≡_, refl, sym, ap, ap₂, _∙_}
+use Prim.Native.Nat.{ℕ, suc, _≤_}
+use mathlib.Core.Path.{_≡_, refl, sym, ap, _∙_}
 use mathlib.Core.Bool.{Bool, true, false, _&&_}
 use mathlib.Core.List.{List, [], _∷_, map, flatMap, append-nil, List·Memᴰ as Mem}
-use lib.ListN.{length, getD, drop, drop-of-length-le, length-map}
-use lib.Seq.{drop-cons}
+use lib.ListN.{length, getD, length-map}
 use lib.Dec.{eqb}
-use borrow.Author.Tests.{eq-eqb, ne-eqb}
 use Rattle.spec.specs.declared.IsdAsn.{IsdAsn}
 use Rattle.spec.specs.declared.Vertex.the-variants.{AS}
 use Rattle.spec.specs.declared.Edge.{Edge}
@@ -50,24 +46,7 @@ fails y p q = sym (ap (λ t. t && y) (sym p ∙ q))
 pub passes : {s x t y : Bool} → s ≡ x → s ≡ true → t ≡ y → t ≡ (x && y)
 passes {y = y} p q r = r ∙ sym (ap (λ t. t && y) (sym p ∙ q))
 
--- ---- two lists of one length, byte by byte
-
-module _ (xs ys : List ℕ) where
-  rest-turn : (k : ℕ) → k < length xs → k < length ys
-      → sameList (drop k xs) (drop k ys) ≡ (eqb (getD xs k 0) (getD ys k 0) && sameList (drop (k + 1) xs) (drop (k + 1) ys))
-  unfolding sameList
-  rest-turn k h l = ap₂ sameList (drop-cons xs k 0 h) (drop-cons ys k 0 l) ∙ rw (add-one k)
-
-  rest-next : (k : ℕ) → k < length xs → k < length ys → getD xs k 0 ≡ getD ys k 0
-      → sameList (drop k xs) (drop k ys) ≡ sameList (drop (k + 1) xs) (drop (k + 1) ys)
-  rest-next k h l e = rest-turn k h l ∙ ap (λ t. t && sameList (drop (k + 1) xs) (drop (k + 1) ys)) (eq-eqb (getD xs k 0) (getD ys k 0) e)
-
-  rest-differs : (k : ℕ) → k < length xs → k < length ys → (getD xs k 0 ≡ getD ys k 0 → ⊥) → sameList (drop k xs) (drop k ys) ≡ false
-  rest-differs k h l n = rest-turn k h l ∙ ap (λ t. t && sameList (drop (k + 1) xs) (drop (k + 1) ys)) (ne-eqb (getD xs k 0) (getD ys k 0) n)
-
-  rest-none : (k : ℕ) → length xs ≤ k → length ys ≤ k → sameList (drop k xs) (drop k ys) ≡ true
-  unfolding sameList
-  rest-none k h l = ap₂ sameList (drop-of-length-le xs h) (drop-of-length-le ys l)
+-- ---- a record and the one that was made of the edges
 
 other-length : (xs ys : List ℕ) → (length xs ≡ length ys → ⊥) → sameList xs ys ≡ false
 unfolding sameList
@@ -83,20 +62,8 @@ other-length (x ∷ xs) (y ∷ ys) n = go (eqb x y) (other-length xs ys (λ q. n
 pub other-size : (given : List ℕ) (s : Solution) → (length given ≡ 16 → ⊥) → sameList given (recordOctets s) ≡ false
 other-size given s n = other-length given (recordOctets s) (λ q. n (q ∙ record-length s))
 
--- the loop over a record and the one that was made of the edges
-module _ (given own : List ℕ) (s : Solution) (e : own ≡ recordOctets s) where
-  pub own-size : length own ≡ 16
-  own-size = ap length e ∙ record-length s
-
-  module _ (k : ℕ) (l : length given ≡ 16) (i : sameList given own ≡ sameList (drop k given) (drop k own)) where
-    pub turn-differs : k < 16 → (getD given k 0 ≡ getD own k 0 → ⊥) → false ≡ sameList given (recordOctets s)
-    turn-differs h n = sym (ap (sameList given) (sym e) ∙ i ∙ rest-differs given own k (omega arith) (omega (arith, own-size)) n)
-
-    pub turn-next : k < 16 → getD given k 0 ≡ getD own k 0 → sameList given own ≡ sameList (drop (k + 1) given) (drop (k + 1) own)
-    turn-next h q = i ∙ rest-next given own k (omega arith) (omega (arith, own-size)) q
-
-    pub turn-last : 16 ≤ k → true ≡ sameList given (recordOctets s)
-    turn-last h = sym (ap (sameList given) (sym e) ∙ i ∙ rest-none given own k (omega arith) (omega (arith, own-size)))
+pub own-size : {own : List ℕ} (s : Solution) → own ≡ recordOctets s → length own ≡ 16
+own-size s e = ap length e ∙ record-length s
 
 -- ---- one list of edges, by the tests
 

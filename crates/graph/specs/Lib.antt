@@ -8,6 +8,7 @@ pub mod Joint
 pub mod Prepared
 pub mod Search
 pub mod Pushed
+pub mod Alike
 pub mod Identity
 pub mod Recorded
 pub mod Named

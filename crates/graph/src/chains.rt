@@ -2,8 +2,12 @@
 ghost use mathlib.Core.Path.{_≡_};
 ghost use mathlib.Core.Bool.{_&&_, not};
 ghost use mathlib.Core.List.{[], _∷_};
+ghost use Prim.Native.Nat.{_+_, _≤_};
+ghost use lib.ListN.{length};
 ghost use Rattle.spec.specs.declared.Verdict.the-variants.{Accepted};
+ghost use Rattle.spec.specs.Limits.{solutionSize};
 ghost use Rattle.spec.specs.Basics.{sameList};
+ghost use Rattle.spec.specs.Octets.{be64};
 ghost use Rattle.spec.specs.Edges.{sameVertex};
 ghost use Rattle.spec.specs.Records.{recordEdge};
 ghost use Rattle.book.specs.Offsets.{openTable};
@@ -15,7 +19,9 @@ ghost use Rattle.graph.specs.Recorded.{saidBy, recorded, recordedChains}
 ghost use Rattle.graph.specs.Named.{ahead, withIdentities, leadsBy, isWay, passing};
 use crate::Chain;
 use crate::Found;
+use crate::alike;
 use crate::edges;
+use crate::named;
 use crate::slots;
 use book::PLACES;
 use spec::Edge;
@@ -46,6 +52,28 @@ fn named_edge(given: &[u8], k: u8) -> SolutionEdge
     }
 }
 
+// Eight bytes as a number.
+fn word(s: &[u8], at: usize) -> u64
+    requires { ⌜ at + 8 ≤ length (now s) ⌝ }
+    ensures { λ r. ⌜ r ≡ be64 (now (s .entry)) at ⌝ }
+{
+    let high = edges::half_within(s, at);
+    let low = edges::half_within(s, at + 4);
+    edges::wide64(high) * 4294967296 + edges::wide64(low)
+}
+
+// Two records are the same.
+fn same_words(a: &[u8], b: &[u8]) -> bool
+    requires { ⌜ length (now a) ≡ solutionSize ⌝ }
+    requires { ⌜ length (now b) ≡ solutionSize ⌝ }
+    ensures { λ r. ⌜ r ≡ sameList (now (a .entry)) (now (b .entry)) ⌝ }
+{
+    if word(a, 0) != word(b, 0) {
+        return false;
+    }
+    word(a, 8) == word(b, 8)
+}
+
 // The record is that of a solution.
 fn same_record(given: &[u8], s: Solution) -> bool
     ensures { λ r. ⌜ r ≡ sameList (now (given .entry)) (recordOctets s) ⌝ }
@@ -54,14 +82,7 @@ fn same_record(given: &[u8], s: Solution) -> bool
     if given.len() != Solution::SIZE {
         return false;
     }
-    let mut k: usize = 0;
-    while k < Solution::SIZE {
-        if given[k] != own[k] {
-            return false;
-        }
-        k += 1;
-    }
-    true
+    same_words(given, &own)
 }
 
 // The stored edge with an identity.
@@ -73,10 +94,13 @@ fn edge_of(book: &[u8], table: &[u16; PLACES], id: SolutionEdge) -> Found
     if sizes.cores + sizes.others <= (id.position as u16) {
         return Found::Nothing;
     }
-    if !equal::is_first(book, id.position) {
+    if edges::count_of(book, id.position) == 0 {
         return Found::Nothing;
     }
-    edges::stored_edge(book, table, id)
+    if !alike::is_first(book, table, id.position) {
+        return Found::Nothing;
+    }
+    named::stored_edge(book, table, id)
 }
 
 // ---- edges in a row

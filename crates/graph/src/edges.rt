@@ -15,12 +15,10 @@ ghost use Rattle.spec.specs.Edges.{sameAs, sameVertex, asOf, leafAs, inConstruc
 ghost use Rattle.graph.specs.Lookup.{between, leavingOf, foundEdges};
 ghost use Rattle.graph.specs.Leaving.{entryCount, peerCountOf, linkOf, hasLink, asUp, peerUp};
 ghost use Rattle.graph.specs.Scan.{joins, entryWith, hasAs, entryLinked, peerLinked, asEdgeAt, downPeerEdge};
-ghost use Rattle.graph.specs.Link.{endOf, farEndOf, samePeer};
+ghost use Rattle.graph.specs.Link.{endOf, samePeer};
 ghost use Rattle.graph.specs.Joint.{jointEdge, jointEdges};
 ghost use Rattle.graph.specs.Ready.{Ready, Filled};
-ghost use Rattle.graph.specs.Identity.{sameIdentity, identified, asNamed, peerNamed, named};
 use crate::Found;
-use crate::slots;
 use spec::AsEntry;
 use spec::Edge;
 use spec::Head;
@@ -28,7 +26,6 @@ use spec::IsdAsn;
 use spec::Limits;
 use spec::PeerEntry;
 use spec::Sizes;
-use spec::SolutionEdge;
 use spec::Vertex;
 
 pub(crate) const PLACES: usize = Limits::SEGMENTS * Limits::ENTRIES;
@@ -42,11 +39,11 @@ pub(crate) fn same_as(a: IsdAsn, b: IsdAsn) -> bool
 }
 
 // A peering link from one side: the AS and the interface there, and those of the other side.
-struct Link {
-    local: IsdAsn,
-    ingress: u16,
-    peer: IsdAsn,
-    interface: u16,
+pub(crate) struct Link {
+    pub local: IsdAsn,
+    pub ingress: u16,
+    pub peer: IsdAsn,
+    pub interface: u16,
 }
 
 fn same_link(a: Link, b: Link) -> bool
@@ -122,13 +119,13 @@ fn wide32(x: u8) -> u32
     x as u32
 }
 
-fn wide64(x: u32) -> u64
+pub(crate) fn wide64(x: u32) -> u64
     ensures { λ r. ⌜ (r ≡ x) × (r < 2 ^ 32) ⌝ }
 {
     x as u64
 }
 
-fn pair_within(book: &[u8], at: usize) -> u16
+pub(crate) fn pair_within(book: &[u8], at: usize) -> u16
     requires { ⌜ at + 2 ≤ length (now book) ⌝ }
     ensures { λ r. ⌜ r ≡ be16 (now (book .entry)) at ⌝ }
 {
@@ -136,7 +133,7 @@ fn pair_within(book: &[u8], at: usize) -> u16
 }
 
 // Four bytes. The compiler makes one load of a flat sum.
-fn half_within(book: &[u8], at: usize) -> u32
+pub(crate) fn half_within(book: &[u8], at: usize) -> u32
     requires { ⌜ at + 4 ≤ length (now book) ⌝ }
     ensures { λ r. ⌜ r ≡ be32 (now (book .entry)) at ⌝ }
 {
@@ -157,7 +154,7 @@ fn as_within(book: &[u8], at: usize) -> IsdAsn
 // ---- entries
 
 // The segment at position k is a core segment.
-fn is_core(book: &[u8], k: u8) -> bool
+pub(crate) fn is_core(book: &[u8], k: u8) -> bool
     ensures { λ r. ⌜ r ≡ segmentAt (now (book .entry)) k .core ⌝ }
 {
     (k as u16) < segment::sizes(book).cores
@@ -181,7 +178,7 @@ pub(crate) fn count_of(book: &[u8], k: u8) -> u8
     book[COUNT + Head::SIZE * (k as usize)]
 }
 
-fn wide(x: u16) -> usize
+pub(crate) fn wide(x: u16) -> usize
     ensures { λ r. ⌜ (r ≡ x) × (r < 2 ^ 16) ⌝ }
 {
     x as usize
@@ -196,7 +193,7 @@ pub(crate) fn offset_at(table: &[u16; PLACES], k: u8, i: u8) -> usize
     wide(table[Limits::ENTRIES * (k as usize) + (i as usize)])
 }
 
-fn as_at(book: &[u8], table: &[u16; PLACES], k: u8, i: u8) -> IsdAsn
+pub(crate) fn as_at(book: &[u8], table: &[u16; PLACES], k: u8, i: u8) -> IsdAsn
     requires { ⌜ Ready (now book) (now table) ⌝ }
     requires { ⌜ k < segmentCount (now book) ⌝ }
     requires { ⌜ i < entryCount (segmentAt (now book) k) ⌝ }
@@ -216,7 +213,7 @@ pub(crate) fn leaf_as(book: &[u8], table: &[u16; PLACES], k: u8) -> IsdAsn
 }
 
 // The first of the entries below n that has an AS; n where none has.
-fn find_as(book: &[u8], table: &[u16; PLACES], k: u8, a: IsdAsn, n: u8) -> u8
+pub(crate) fn find_as(book: &[u8], table: &[u16; PLACES], k: u8, a: IsdAsn, n: u8) -> u8
     requires { ⌜ Ready (now book) (now table) ⌝ }
     requires { ⌜ k < segmentCount (now book) ⌝ }
     requires { ⌜ n ≤ entryCount (segmentAt (now book) k) ⌝ }
@@ -359,7 +356,7 @@ fn find_linked(book: &[u8], table: &[u16; PLACES], k: u8, link: Link, n: u8) -> 
 }
 
 // The link of peer p of entry i.
-fn link_at(book: &[u8], table: &[u16; PLACES], k: u8, i: u8, p: u8) -> Link
+pub(crate) fn link_at(book: &[u8], table: &[u16; PLACES], k: u8, i: u8, p: u8) -> Link
     requires { ⌜ Ready (now book) (now table) ⌝ }
     requires { ⌜ k < segmentCount (now book) ⌝ }
     requires { ⌜ i < entryCount (segmentAt (now book) k) ⌝ }
@@ -700,112 +697,4 @@ pub(crate) fn peer_up(book: &[u8], table: &[u16; PLACES], k: u8, i: u8, p: u8) -
         construction: false,
         core: is_core(book, k),
     })
-}
-
-// ---- by identity
-
-fn same_identity(x: SolutionEdge, y: SolutionEdge) -> bool
-    ensures { λ r. ⌜ r ≡ sameIdentity x y ⌝ }
-{
-    if x.position != y.position {
-        return false;
-    }
-    if x.shortcut != y.shortcut {
-        return false;
-    }
-    if x.peer != y.peer {
-        return false;
-    }
-    if x.construction {
-        return y.construction;
-    }
-    !y.construction
-}
-
-// What is stored from the AS of entry i to the leaf, or from the leaf to the AS.
-fn as_named(book: &[u8], table: &[u16; PLACES], k: u8, i: u8, construction: bool) -> Found
-    requires { ⌜ Ready (now book) (now table) ⌝ }
-    requires { ⌜ k < segmentCount (now book) ⌝ }
-    requires { ⌜ i < entryCount (segmentAt (now book) k) ⌝ }
-    ensures { λ r. ⌜ foundEdges r ≡ asNamed (segmentAt (now (book .entry)) k) i construction ⌝ }
-{
-    let here = as_at(book, table, k, i);
-    let leaf = leaf_as(book, table, k);
-    if construction {
-        return between(book, table, k, Vertex::AS(here), leaf);
-    }
-    between(book, table, k, Vertex::AS(leaf), here)
-}
-
-// From the other side of a link to an AS.
-fn from_far(book: &[u8], table: &[u16; PLACES], k: u8, link: Link, w: IsdAsn) -> Found
-    requires { ⌜ Ready (now book) (now table) ⌝ }
-    requires { ⌜ k < segmentCount (now book) ⌝ }
-    ensures { λ r. ⌜ foundEdges r ≡ between (segmentAt (now (book .entry)) k) (farEndOf link) (AS w) ⌝ }
-{
-    let far = link.peer;
-    let near = link.local;
-    let v = Vertex::Peering {
-        local_ia: far,
-        local_ifid: link.interface,
-        peer_ia: near,
-        peer_ifid: link.ingress,
-    };
-    between(book, table, k, v, w)
-}
-
-// What is stored from the other side of peer p of entry i to the leaf, or from the leaf to the peer.
-fn peer_named(book: &[u8], table: &[u16; PLACES], k: u8, i: u8, p: u8, construction: bool) -> Found
-    requires { ⌜ Ready (now book) (now table) ⌝ }
-    requires { ⌜ k < segmentCount (now book) ⌝ }
-    requires { ⌜ i < entryCount (segmentAt (now book) k) ⌝ }
-    requires { ⌜ p < peerCountOf (segmentAt (now book) k) i ⌝ }
-    ensures { λ r. ⌜ foundEdges r ≡ peerNamed (segmentAt (now (book .entry)) k) i p construction ⌝ }
-{
-    if !construction {
-        return peer_up(book, table, k, i, p);
-    }
-    let link = link_at(book, table, k, i, p);
-    from_far(book, table, k, link, leaf_as(book, table, k))
-}
-
-// What is stored at the one place where an edge with an identity can be.
-fn named(book: &[u8], table: &[u16; PLACES], id: SolutionEdge) -> Found
-    requires { ⌜ Ready (now book) (now table) ⌝ }
-    requires { ⌜ id .position < segmentCount (now book) ⌝ }
-    ensures { λ r. ⌜ foundEdges r ≡ named (segmentAt (now (book .entry)) (id .position)) id ⌝ }
-{
-    let k = id.position;
-    let i = id.shortcut;
-    let q = id.peer;
-    let construction = id.construction;
-    if entry_count(book, k) <= i as usize {
-        return Found::Nothing;
-    }
-    if q == 0 {
-        return as_named(book, table, k, i, construction);
-    }
-    if is_core(book, k) {
-        return Found::Nothing;
-    }
-    if peer_count(book, table, k, i) < q as usize {
-        return Found::Nothing;
-    }
-    peer_named(book, table, k, i, q - 1, construction)
-}
-
-// The stored edge that has an identity. Its ends follow from the identity, so that one look-up finds it.
-pub(crate) fn stored_edge(book: &[u8], table: &[u16; PLACES], id: SolutionEdge) -> Found
-    requires { ⌜ Ready (now book) (now table) ⌝ }
-    requires { ⌜ id .position < segmentCount (now book) ⌝ }
-    ensures { λ r. ⌜ foundEdges r ≡ identified (segmentAt (now (book .entry)) (id .position)) id ⌝ }
-{
-    let found = named(book, table, id);
-    let Found::Edge(e) = found else {
-        return Found::Nothing;
-    };
-    if same_identity(slots::edge(e), id) {
-        return Found::Edge(e);
-    }
-    Found::Nothing
 }

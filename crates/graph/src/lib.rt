@@ -8,9 +8,11 @@ ghost use Rattle.spec.specs.Records.{slots};
 ghost use Rattle.spec.specs.Answers.{listing};
 ghost use Rattle.graph.specs.Ready.{Ready};
 
+mod alike;
 mod chains;
 mod edges;
 mod firsts;
+mod named;
 mod search;
 mod slots;
 

@@ -1,8 +1,8 @@
 -- `from_far` meets its contract.
 -- Assumes nothing.
 use borrow.Author.Needs.{needs}
-use Rattle.graph.proofs.edges.from_far.Statement.{statement}
-use Rattle.graph.proofs.edges.from_far.Tie as tie
+use Rattle.graph.proofs.named.from_far.Statement.{statement}
+use Rattle.graph.proofs.named.from_far.Tie as tie
 
 pub from-far-spec : {M : Type 1} → statement M
 from-far-spec =

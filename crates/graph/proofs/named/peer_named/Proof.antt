@@ -4,8 +4,8 @@ use mathlib.Core.Path.{_∙_}
 use borrow.Author.Tests.{not-true, not-false}
 use Rattle.graph.proofs.IdentityLaws.{peer-up, peer-down}
 use borrow.Author.Needs.{needs}
-use Rattle.graph.proofs.edges.peer_named.Statement.{statement}
-use Rattle.graph.proofs.edges.peer_named.Tie as tie
+use Rattle.graph.proofs.named.peer_named.Statement.{statement}
+use Rattle.graph.proofs.named.peer_named.Tie as tie
 
 returns : tie.Need-returns
 returns c =

@@ -5,8 +5,8 @@ use mathlib.Core.Bool.{not}
 use Rattle.spec.specs.Edges.{sameBool}
 use Rattle.spec.specs.Basics.{if_then_else_}
 use Rattle.graph.proofs.IdentityLaws.{other-position, other-shortcut, other-peer, by-direction}
-use Rattle.graph.proofs.edges.same_identity.Statement.{statement}
-use Rattle.graph.proofs.edges.same_identity.Tie as tie
+use Rattle.graph.proofs.named.same_identity.Statement.{statement}
+use Rattle.graph.proofs.named.same_identity.Tie as tie
 
 returns : tie.Need-returns
 returns c =

@@ -1,0 +1,189 @@
+-- A segment that has an entry has its id, and the last byte of its first MAC, in common with every segment that equals it.
+-- Assumes nothing.
+use Prim.Native.Nat.{ℕ, zero, suc, _+_, _-_, _*_, _≤_, _<_}
+use native.Mathlib.Decide.{ℕ-discrete}
+use native.Mathlib.Omega.{arith}
+use mathlib.Core.Path.{_≡_, refl, sym, ap, _∙_}
+use mathlib.Core.Bool.{Bool, true, false, _&&_}
+use mathlib.Core.List.{List, [], _∷_}
+use lib.ListN.{length, getD, set, take, drop, replicate, length-take, length-drop}
+use lib.Seq.{getD-take, getD-drop}
+use lib.Dec.{ltb, eqb}
+use borrow.Author.Tests.{ltb-true, ltb-false, eqb-true}
+use Rattle.spec.specs.declared.Verdict.the-variants.{Accepted}
+use Rattle.spec.specs.Limits.{headSize, entrySize, maxSegments, maxEntries}
+use Rattle.spec.specs.Basics.{any, range, sameList}
+use Rattle.spec.specs.Octets.{be16}
+use Rattle.spec.specs.Book.{Segment, segmentAt, segmentCount, headOffset, wholeLength, idAt, entryCountAt, bodyLengthAt, bodyOffset, entryOffset, verdict}
+use Rattle.spec.specs.Edges.{sameBool, sameSegment}
+use Rattle.spec.proofs.Membership.{and-true}
+use Rattle.spec.proofs.BookLaws.{AcceptedBook, accepted}
+use Rattle.spec.proofs.BodyLaws.{body-end, body-filled, entry-place}
+use Rattle.spec.proofs.AnswerLaws.{sameList-eq}
+use Rattle.segment.proofs.Positions.{any-next}
+use Rattle.book.specs.Offsets.{noOffsets, withRow, rowsBelow, offsetTable}
+use Rattle.book.proofs.Tables.{table-at}
+use Rattle.equal.proofs.Sameness.{repeats, repeats-is}
+use Rattle.graph.specs.Leaving.{entryCount}
+use Rattle.graph.specs.Ready.{Ready}
+use Rattle.graph.specs.Alike.{macByteAt}
+use Rattle.graph.proofs.LookupReads.{count-read}
+
+-- ---- every offset of the table has an entry's bytes after it in the book
+
+module _ (size : ℕ) where
+  set-within : (xs : List ℕ) (i v j : ℕ) → v + entrySize ≤ size → getD xs j 0 + entrySize ≤ size → getD (set xs i v) j 0 + entrySize ≤ size
+  set-within [] i v j p q = q
+  set-within (x ∷ xs) zero v zero p q = p
+  set-within (x ∷ xs) zero v (suc j) p q = q
+  set-within (x ∷ xs) (suc i) v zero p q = q
+  set-within (x ∷ xs) (suc i) v (suc j) p q = set-within xs i v j p q
+
+  zeros-within : entrySize ≤ size → (n j : ℕ) → getD (replicate n 0) j 0 + entrySize ≤ size
+  zeros-within h zero j = omega arith
+  zeros-within h (suc n) zero = omega arith
+  zeros-within h (suc n) (suc j) = zeros-within h n j
+
+  row-within : (b : List ℕ) (at place n : ℕ) (table : List ℕ) → ((i : ℕ) → i < n → entryOffset b at i + entrySize ≤ size)
+      → ((j : ℕ) → getD table j 0 + entrySize ≤ size) → (j : ℕ) → getD (withRow b at place n table) j 0 + entrySize ≤ size
+  unfolding withRow
+  row-within b at place zero table p q j = q j
+  row-within b at place (suc n) table p q j =
+      set-within (withRow b at place n table) (place + n) (entryOffset b at n) j (p n (omega arith)) (row-within b at place n table (λ i l. p i (omega arith)) q j)
+
+module _ (b : List ℕ) (a : AcceptedBook b) (long : entrySize ≤ length b) where
+  rows-within : (n : ℕ) → n ≤ segmentCount b → (j : ℕ) → getD (rowsBelow b n) j 0 + entrySize ≤ length b
+  unfolding rowsBelow
+  rows-within zero h j = unfold noOffsets in zeros-within (length b) long (maxSegments * maxEntries) j
+  rows-within (suc k) h j =
+      row-within (length b) b (bodyOffset b k) (maxEntries * k) (entryCountAt b k) (rowsBelow b k)
+      (λ i l. omega (arith, entry-place b a k (omega arith) i l .entry, body-end b a k (omega arith)))
+      (rows-within k (omega arith)) j
+
+-- ---- what is read
+
+pub id-read : (b : List ℕ) (k : ℕ) {x : ℕ} → x ≡ be16 b (12 + headSize * k) → x ≡ idAt b k
+unfolding idAt headOffset
+id-read b k e = let f : 12 + headSize * k ≡ 8 + headSize * k + 4 = omega arith in e ∙ ap (be16 b) f
+
+pub id-within : (b : List ℕ) → verdict b ≡ Accepted → (k : ℕ) → k < segmentCount b → 12 + headSize * k + 2 ≤ length b
+unfolding wholeLength headOffset
+id-within b ok k h = let w = accepted b ok .whole in omega arith
+
+module _ (b t : List ℕ) (r : Ready b t) where
+  book : AcceptedBook b
+  book = accepted b (r .ok)
+
+  pub any-within : entrySize ≤ length b → (j : ℕ) {o : ℕ} → o ≡ getD t j 0 → o + entrySize ≤ length b
+  unfolding offsetTable
+  any-within h j e = omega (arith, ap (λ u. getD u j 0) (r .table), rows-within b book h (segmentCount b) (omega arith) j)
+
+  module _ (k : ℕ) (h : k < segmentCount b) where
+    module _ (some : 0 < entryCount (segmentAt b k)) where
+      entries : 0 < entryCountAt b k
+      entries = omega (arith, count-read b k)
+
+      start : entryOffset b (bodyOffset b k) 0 ≡ bodyOffset b k
+      unfolding entryOffset
+      start = refl
+
+      size : entrySize ≤ bodyLengthAt b k
+      size = omega (arith, start, entry-place b book k h 0 entries .entry)
+
+      pub some-bytes : entrySize ≤ length b
+      some-bytes = omega (arith, size, body-end b book k h)
+
+      place : getD t (maxEntries * k) 0 ≡ bodyOffset b k
+      place =
+          let e : maxEntries * k ≡ maxEntries * k + 0 = omega arith in
+          ap (λ u. getD u (maxEntries * k) 0) (r .table) ∙ ap (λ j. getD (offsetTable b) j 0) e ∙ table-at b book k 0 h entries ∙ start
+
+      mac-body : macByteAt b t k ≡ getD (segmentAt b k .body) 24 0
+      unfolding macByteAt segmentAt
+      mac-body =
+          ap (λ m. getD b (m + 24) 0) place
+          ∙ sym (getD-drop (bodyOffset b k) b 24 0)
+          ∙ sym (getD-take (bodyLengthAt b k) (drop (bodyOffset b k) b) 24 0 (omega (arith, size)))
+
+      body-some : 0 < length (segmentAt b k .body)
+      unfolding segmentAt
+      body-some = omega (arith, length-take (bodyLengthAt b k) (drop (bodyOffset b k) b), length-drop (bodyOffset b k) b, size, body-end b book k h)
+
+    -- no entry, no byte
+    body-none : entryCount (segmentAt b k) ≡ 0 → length (segmentAt b k .body) ≡ 0
+    unfolding segmentAt
+    body-none none =
+        ap (λ m. length (take m (drop (bodyOffset b k) b))) empty ∙ refl
+      where
+        empty : bodyLengthAt b k ≡ 0
+        empty =
+            let e : entryCountAt b k ≡ 0 = sym (count-read b k) ∙ none in
+            let z : entryOffset b (bodyOffset b k) 0 ≡ bodyOffset b k = unfold entryOffset in refl in
+            omega (arith, body-filled b book k h, ap (entryOffset b (bodyOffset b k)) e)
+
+-- ---- equal segments
+
+same-parts : (s u : Segment) → sameSegment s u ≡ true → (s .id ≡ u .id) × (s .body ≡ u .body)
+unfolding sameSegment
+same-parts s u q =
+    let p = and-true ((sameBool (s .core) (u .core) && eqb (s .timestamp) (u .timestamp)) && eqb (s .id) (u .id)) (sameList (s .body) (u .body)) q in
+    let i = and-true (sameBool (s .core) (u .core) && eqb (s .timestamp) (u .timestamp)) (eqb (s .id) (u .id)) (p .0) in
+    (eqb-true _ _ (i .1), sameList-eq _ _ (p .1))
+
+module _ (b t : List ℕ) (r : Ready b t) (k : ℕ) (h : k < segmentCount b) (some : 0 < entryCount (segmentAt b k)) where
+  -- what equals a segment with an entry has one
+  same-some : (j : ℕ) → j < segmentCount b → segmentAt b k .body ≡ segmentAt b j .body → 0 < entryCount (segmentAt b j)
+  same-some j l q = go (ℕ-discrete (entryCount (segmentAt b j)) 0)
+    where
+      go : Dec (entryCount (segmentAt b j) ≡ 0) → 0 < entryCount (segmentAt b j)
+      go (yes e) = absurd (omega (arith, body-some b t r k h some, body-none b t r j l e, ap length q))
+      go (no d) = above (entryCount (segmentAt b j)) d
+        where
+          above : (n : ℕ) → (n ≡ 0 → ⊥) → 0 < n
+          above zero d = absurd (d refl)
+          above (suc n) d = omega arith
+
+  alike : (j : ℕ) → j < segmentCount b → sameSegment (segmentAt b k) (segmentAt b j) ≡ true → (idAt b j ≡ idAt b k) × (macByteAt b t j ≡ macByteAt b t k)
+  alike j l q =
+      let p = same-parts (segmentAt b k) (segmentAt b j) q in (
+        unfold segmentAt in sym (p .0),
+        mac-body b t r j l (same-some j l (p .1)) ∙ ap (λ x. getD x 24 0) (sym (p .1)) ∙ sym (mac-body b t r k h some),
+      )
+
+  -- positions that are passed over
+  module _ {id mac : ℕ} (ei : id ≡ idAt b k) (em : mac ≡ macByteAt b t k) where
+    other : (j : ℕ) → j < k → (idAt b j ≡ id → macByteAt b t j ≡ mac → ⊥) → repeats b k j ≡ false
+    other j l d = repeats-is b k j l ∙ go (sameSegment (segmentAt b k) (segmentAt b j)) refl
+      where
+        go : (x : Bool) → sameSegment (segmentAt b k) (segmentAt b j) ≡ x → x ≡ false
+        go true q = let w = alike j (omega arith) q in absurd (d (w .0 ∙ sym ei) (w .1 ∙ sym em))
+        go false q = refl
+
+    pub alike-skipped : (i j : ℕ) → i ≤ j → j ≤ k → ((m : ℕ) → i ≤ m → m < j → idAt b m ≡ id → macByteAt b t m ≡ mac → ⊥)
+        → any (repeats b k) (range i (segmentCount b - i)) ≡ any (repeats b k) (range j (segmentCount b - j))
+    alike-skipped i j p q none = go (j - i) i (omega arith) none
+      where
+        go : (d i : ℕ) → i + d ≡ j → ((m : ℕ) → i ≤ m → m < j → idAt b m ≡ id → macByteAt b t m ≡ mac → ⊥)
+            → any (repeats b k) (range i (segmentCount b - i)) ≡ any (repeats b k) (range j (segmentCount b - j))
+        go zero i e f = let s : i ≡ j = omega arith in ap (λ m. any (repeats b k) (range m (segmentCount b - m))) s
+        go (suc d) i e f =
+            any-next (repeats b k) (segmentCount b) i (omega arith) (other i (omega arith) (f i (omega arith) (omega arith)))
+            ∙ go d (i + 1) (omega arith) (λ m a l. f m (omega arith) l)
+
+-- the positions from an earlier one up to j, and j itself, differ
+module _ (b t : List ℕ) (from j : ℕ) {id mac : ℕ} (none : (i : ℕ) → from ≤ i → i < j → idAt b i ≡ id → macByteAt b t i ≡ mac → ⊥) where
+  more : (idAt b j ≡ id → macByteAt b t j ≡ mac → ⊥) → (i : ℕ) → from ≤ i → i < j + 1 → idAt b i ≡ id → macByteAt b t i ≡ mac → ⊥
+  more d i l h = go (ltb i j) refl
+    where
+      go : (x : Bool) → ltb i j ≡ x → idAt b i ≡ id → macByteAt b t i ≡ mac → ⊥
+      go true e p q = none i l (ltb-true _ _ e) p q
+      go false e p q =
+          let g : j ≤ i = ltb-false _ _ e in
+          let s : i ≡ j = omega arith in
+          d (sym (ap (idAt b) s) ∙ p) (sym (ap (macByteAt b t) s) ∙ q)
+
+  pub other-id : {x : ℕ} → x ≡ idAt b j → (x ≡ id → ⊥) → (i : ℕ) → from ≤ i → i < j + 1 → idAt b i ≡ id → macByteAt b t i ≡ mac → ⊥
+  other-id e d = more (λ p q. d (e ∙ p))
+
+  pub other-mac : {x : ℕ} → x ≡ macByteAt b t j → (x ≡ mac → ⊥) → (i : ℕ) → from ≤ i → i < j + 1 → idAt b i ≡ id → macByteAt b t i ≡ mac → ⊥
+  other-mac e d = more (λ p q. d (e ∙ q))

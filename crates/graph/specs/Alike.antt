@@ -1,0 +1,10 @@
+-- What is read of a segment before it is compared with another.
+-- Assumes nothing.
+use Prim.Native.Nat.{ℕ, _+_, _*_}
+use mathlib.Core.List.{List}
+use lib.ListN.{getD}
+use Rattle.spec.specs.Limits.{maxEntries}
+
+-- the last byte of the MAC of the first entry of the segment at k, by the table of offsets
+unfoldable pub macByteAt : List ℕ → List ℕ → ℕ → ℕ
+macByteAt b t k = getD b (getD t (maxEntries * k) 0 + 24) 0
