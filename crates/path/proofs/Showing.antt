@@ -22,9 +22,8 @@ use Rattle.spec.proofs.ByteLaws.{hop-length}
 use Rattle.spec.proofs.BookLaws.{hop-good}
 use Rattle.output.specs.Write.{written}
 use Rattle.output.proofs.Writing.{octets2-length, octets8-length}
-use Rattle.path.specs.declared.Part.the-variants.{Hops, Ases, Ids}
 use Rattle.path.specs.Places.{isLeft, linkOffset, Here, Wrote}
-use Rattle.path.specs.Parts.{linkMtus, ingressShown, shownAs, asIf, idIf, interfacesHere, entryBytes}
+use Rattle.path.specs.Parts.{Hops, Ases, Ids, linkMtus, ingressShown, shownAs, asIf, idIf, interfacesHere, entryBytes}
 use Rattle.path.proofs.Copies.{link-copied}
 use Rattle.path.proofs.Standing.{link-hop, own-hop}
 use Rattle.path.proofs.Writes.{wrote-none, wrote-one, wrote-join, wrote-as}

@@ -18,7 +18,6 @@ use Rattle.spec.specs.Octets.{be16, be32}
 use Rattle.spec.specs.Book.{segmentCount, entryCountAt, bodyOffset, entryOffset, peerCount, isdAsnAt, asEntryAt, peerEntryAt, segmentAt}
 use Rattle.spec.specs.Edges.{entryOf, asOf, peerOf}
 use Rattle.spec.specs.Assembly.{isPeerHop, isPeerEdge, atShortcut, hopOf, segmentOf}
-use Rattle.spec.specs.Router.{hopEntry}
 use Rattle.spec.proofs.Membership.{not-both}
 use Rattle.spec.proofs.BookLaws.{AcceptedBook, accepted, entry-count, segment-length}
 use Rattle.spec.proofs.BodyLaws.{entry-place, body-end, peer-place}
@@ -118,9 +117,8 @@ unfolding segmentOf
 count-read b e q = q ∙ sym (segment-length b (e .position))
 
 -- the entry of a hop
-pub entry-from : (b : List ℕ) (e : Edge) → Usable b e → (n j : ℕ) → n ≡ length (segmentOf b e .entries) → entryFrom e n j ≡ hopEntry (segmentOf b e) e j
-unfolding entryFrom hopEntry
-entry-from b e u n j q = ap₂ (λ (t : Bool) k. if t then e .shortcut + j else k - 1 - j) (u .direction) q
+pub entry-from : (b : List ℕ) (e : Edge) (n j : ℕ) → n ≡ length (segmentOf b e .entries) → entryFrom e n j ≡ entryFrom e (length (segmentOf b e .entries)) j
+entry-from b e n j q = ap (λ k. entryFrom e k j) q
 
 pub from-along : (e : Edge) (n j : ℕ) → e .construction ≡ true → e .shortcut + j ≡ entryFrom e n j
 unfolding entryFrom
