@@ -2,7 +2,7 @@
 ghost use mathlib.Core.Path.{_≡_};
 ghost use mathlib.Core.List.{_++_};
 ghost use Prim.Native.Nat.{_+_, _^_, _≤_, _<_, min};
-ghost use lib.ListN.{length};
+ghost use lib.ListN.{length, take, drop};
 ghost use Rattle.spec.specs.Limits.{entrySize, hopSize};
 ghost use Rattle.spec.specs.Book.{isdAsnAt, asEntryAt};
 ghost use Rattle.spec.specs.Edges.{asOf};
@@ -62,20 +62,30 @@ fn egress_at(book: &[u8], e: SolutionEdge, m: usize, at: usize) -> u16
     within::read16(book, at + 16)
 }
 
-// An entry's own hop: in the book its units stand after the interfaces.
+// An entry's own hop: in the book its units stand after the interfaces. It is put together in a local one, which the compiler moves as a whole.
 fn put_own_hop(book: &[u8], at: usize, out: &mut [u8], to: usize)
     requires { ⌜ at + entrySize ≤ length (now book) ⌝ }
     requires { ⌜ at < 2 ^ 16 ⌝ }
     requires { ⌜ to + hopSize ≤ length (now out) ⌝ }
     ensures { λ _. ⌜ now (out .exit) ≡ written (now (out .entry)) to (hopOctets (asEntryAt (now (book .entry)) at .hop)) ⌝ }
 {
-    output::put_byte(out, to, book[at + 18]);
-    output::put32(out, to + 1, within::read32(book, at + 14));
-    output::put32(out, to + 5, within::read32(book, at + 19));
-    output::put16(out, to + 9, within::read16(book, at + 23));
+    let mut r = [0u8; HOP];
+    r[0] = book[at + 18];
+    within::copy(book, at + 14, &mut r, 1, 4);
+    within::copy(book, at + 19, &mut r, 5, 6);
+    within::copy(&r, 0, out, to, HOP);
 }
 
-// A peer's hop stands in the book as in a path.
+// A peer's hop stands in the book as in a path; it too goes by way of a local one.
+fn put_peer_hop(book: &[u8], from: usize, out: &mut [u8], to: usize)
+    requires { ⌜ (from + hopSize ≤ length (now book)) × (to + hopSize ≤ length (now out)) ⌝ }
+    ensures { λ _. ⌜ now (out .exit) ≡ written (now (out .entry)) to (take hopSize (drop from (now (book .entry)))) ⌝ }
+{
+    let mut r = [0u8; HOP];
+    within::copy(book, from, &mut r, 0, HOP);
+    within::copy(&r, 0, out, to, HOP);
+}
+
 pub(crate) fn put_hop(
     book: &[u8],
     e: SolutionEdge,
@@ -91,7 +101,7 @@ pub(crate) fn put_hop(
 {
     if places::is_peer_hop(e, m) {
         let from = places::link_offset(e, at) + 12;
-        output::copy(book, from, HOP, out, to);
+        put_peer_hop(book, from, out, to);
         return to + HOP;
     }
     put_own_hop(book, at, out, to);
@@ -138,7 +148,7 @@ fn put_as(out: &mut [u8], to: usize, local: IsdAsn, id: u16) -> usize
     if id == 0 {
         return to;
     }
-    output::put64(out, to, local.0);
+    within::put64(out, to, local.0);
     to + 8
 }
 
@@ -149,7 +159,7 @@ fn put_id(out: &mut [u8], to: usize, id: u16) -> usize
     if id == 0 {
         return to;
     }
-    output::put16(out, to, id);
+    within::put16(out, to, id);
     to + 2
 }
 

@@ -9,19 +9,24 @@ ghost use Rattle.spec.specs.Assembly.{isPeerHop, segmentOf};
 ghost use Rattle.path.specs.Usable.{Ready, edgeBy, Usable};
 ghost use Rattle.path.specs.Places.{linkOffset, isLeft, Here, entryFrom};
 use spec::AsEntry;
+use spec::Head;
 use spec::Limits;
 use spec::PeerEntry;
+use spec::Sizes;
 use spec::SolutionEdge;
 
 pub const PLACES: usize = Limits::SEGMENTS * Limits::ENTRIES;
 
-// How many entries the edge's segment has.
+// Where the low byte of the first segment's entry count stands.
+const COUNT: usize = Sizes::SIZE + 7;
+
+// How many entries the edge's segment has: in an accepted book the count fits its low byte.
 pub(crate) fn entry_count(book: &[u8], e: SolutionEdge) -> usize
     requires { ⌜ verdict (now book) ≡ Accepted ⌝ }
     requires { ⌜ Usable (now book) (edgeBy e) ⌝ }
     ensures { λ r. ⌜ (r ≡ length (segmentOf (now (book .entry)) (edgeBy e) .entries)) × (r ≤ maxEntries) × (e .shortcut < r) ⌝ }
 {
-    segment::entry_count(book, e.position) as usize
+    book[COUNT + Head::SIZE * (e.position as usize)] as usize
 }
 
 // The entry of hop j, of n entries.
