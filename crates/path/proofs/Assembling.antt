@@ -6,7 +6,7 @@ use native.Mathlib.Omega.{arith}
 use mathlib.Core.Path.{_≡_, refl, sym, ap, ap₂, _∙_, subst}
 use mathlib.Core.Bool.{Bool, true, false}
 use mathlib.Core.List.{List, [], _∷_, _++_, map, flatMap, append-assoc, List·Memᴰ as Mem, List·Memᴰ·head as head, List·Memᴰ·tail as tail}
-use lib.ListN.{length, getD, take, drop, replicate, length-append, length-map, length-take, length-drop, length-replicate}
+use lib.ListN.{length, getD, take, drop, replicate, length-append, length-map, length-drop}
 use lib.Seq.{length-take-le, drop-at}
 use Rattle.spec.specs.declared.IsdAsn.{IsdAsn}
 use Rattle.spec.specs.declared.HopField.{HopField}
@@ -15,20 +15,19 @@ use Rattle.spec.specs.declared.Edge.{Edge}
 use Rattle.spec.specs.declared.Path.{Path as PathHead}
 use Rattle.spec.specs.declared.PathAnswer.{PathAnswer}
 use Rattle.spec.specs.declared.PathAnswer.the-variants.{Path, Loop, Bare}
-use Rattle.spec.specs.Limits.{maxEdges, maxEntries, maxMtu, maxTime, pathSize, pathHeadSize, infoSize, hopSize, interfaceSize}
+use Rattle.spec.specs.Limits.{maxEdges, maxEntries, maxMtu, maxTime, pathSize, pathHeadSize, infoSize, hopSize}
 use Rattle.spec.specs.Basics.{if_then_else_, range, padded}
-use Rattle.spec.specs.Octets.{Bytes, be64, octets2, octets4, octets8}
+use Rattle.spec.specs.Octets.{Bytes, octets2, octets4, octets8}
 use Rattle.spec.specs.Book.{Segment, isdAsnAt}
-use Rattle.spec.specs.Assembly.{least, hopCount, usedEntries, interfaceIf, interfacesAt, interfacesOf, inDirection, segmentOf, infoOn, hopsOn, interfacesOn, mtusOn, expiryOn, CombinedPath, combinedPath, isLoop, isBare, outcome}
+use Rattle.spec.specs.Assembly.{least, hopCount, usedEntries, interfaceIf, interfacesAt, interfacesOf, segmentOf, infoOn, hopsOn, interfacesOn, mtusOn, expiryOn, CombinedPath, combinedPath, isLoop, isBare, outcome}
 use Rattle.spec.specs.Records.{infoOctets, hopOctets, asOctets, interfaceAsOctets, interfaceIdOctets, noInterface, pathHead, pathHeadOctets, pathOctets}
 use Rattle.spec.specs.Answers.{leftBy, pathAnswer}
 use Rattle.spec.proofs.Membership.{map-mem, flatMap-mem}
-use Rattle.spec.proofs.Lists.{length-range}
 use Rattle.spec.proofs.ByteLaws.{GoodHop, octets8-back, isdAsnAt-shift, info-length, hop-length, read-all}
 use Rattle.spec.proofs.BookLaws.{AcceptedBook, hops-good}
 use Rattle.spec.proofs.PathLaws.{direction-length, used-length, hops-length, head-length}
 use Rattle.spec.proofs.Bounds.{flat-exact}
-use Rattle.spec.proofs.ReadBack.{GoodInterface, good-interfaces}
+use Rattle.spec.proofs.ReadBack.{good-interfaces}
 use Rattle.output.specs.Write.{written, zeroed}
 use Rattle.output.proofs.Writing.{written-pair, written-length, written-within, written-next, zeroed-rest, zeroed-all}
 use Rattle.path.specs.declared.record.Front.{Front}

@@ -1,6 +1,6 @@
 -- Bytes copied from the book into a path.
 -- Assumes nothing.
-use Prim.Native.Nat.{ℕ, suc, _+_, _≤_, _<_, _^_}
+use Prim.Native.Nat.{ℕ, suc, _+_, _≤_, _<_}
 use native.Mathlib.Nat.{add-assoc, le-antisymm}
 use native.Mathlib.Numerals.{add-one}
 use native.Mathlib.Omega.{arith}
@@ -12,7 +12,6 @@ use Rattle.spec.specs.Limits.{entrySize, peerSize, hopSize}
 use Rattle.spec.specs.Octets.{Bytes, be16, octets2}
 use Rattle.spec.specs.Book.{macAt, asEntryAt, peerEntryAt}
 use Rattle.spec.specs.Records.{hopOctets}
-use Rattle.spec.proofs.BookLaws.{be16-lt}
 use Rattle.output.specs.Write.{written}
 use Rattle.output.proofs.Writing.{copied, written-one, written-next, written-pair}
 

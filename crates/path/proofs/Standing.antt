@@ -2,7 +2,7 @@
 -- Assumes nothing.
 use Prim.Native.Nat.{ℕ, _+_, _-_, _*_, _^_, _≤_, _<_}
 use native.Mathlib.Omega.{arith}
-use mathlib.Core.Path.{_≡_, refl, sym, ap, ap₂, _∙_, subst}
+use mathlib.Core.Path.{_≡_, refl, sym, ap, _∙_, subst}
 use mathlib.Core.Bool.{Bool, true, false, _&&_}
 use mathlib.Core.List.{List}
 use lib.ListN.{length, getD}
@@ -13,16 +13,15 @@ use Rattle.spec.specs.declared.AsEntry.{AsEntry}
 use Rattle.spec.specs.declared.PeerEntry.{PeerEntry}
 use Rattle.spec.specs.declared.Edge.{Edge}
 use Rattle.spec.specs.declared.Verdict.the-variants.{Accepted}
-use Rattle.spec.specs.Limits.{headSize, entrySize, maxEntries, maxSegments}
+use Rattle.spec.specs.Limits.{headSize, maxEntries, maxSegments}
 use Rattle.spec.specs.Basics.{if_then_else_}
 use Rattle.spec.specs.Octets.{be16, be32}
-use Rattle.spec.specs.Book.{verdict, segmentCount, entryCountAt, bodyOffset, entryOffset, peerCount, isdAsnAt, asEntryAt, peerEntryAt, segmentAt}
+use Rattle.spec.specs.Book.{verdict, entryCountAt, bodyOffset, entryOffset, peerCount, isdAsnAt, asEntryAt, peerEntryAt, segmentAt}
 use Rattle.spec.specs.Edges.{entryOf, asOf, peerOf}
 use Rattle.spec.specs.Assembly.{isPeerHop, isPeerEdge, atShortcut, hopOf, segmentOf}
 use Rattle.spec.proofs.Membership.{not-both}
 use Rattle.spec.proofs.BookLaws.{AcceptedBook, accepted, entry-count, segment-length}
 use Rattle.spec.proofs.BodyLaws.{entry-place, body-end, peer-place}
-use Rattle.book.specs.Offsets.{offsetTable}
 use Rattle.segment.proofs.Fitting.{own-read, peers-read, peer-read, offset-small}
 use Rattle.book.proofs.Tables.{table-at}
 use Rattle.graph.specs.Leaving.{entryCount}

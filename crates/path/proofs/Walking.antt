@@ -1,6 +1,6 @@
 -- The walks over an edge's hops: their turns, and what they end in.
 -- Assumes nothing.
-use Prim.Native.Nat.{ℕ, zero, suc, _+_, _-_, _*_, _≤_, _<_, min}
+use Prim.Native.Nat.{ℕ, _+_, _-_, _≤_, _<_, min}
 use native.Mathlib.Nat.{zero-add, add-zero}
 use native.Mathlib.Numerals.{add-one}
 use native.Mathlib.Omega.{arith}
@@ -8,19 +8,17 @@ use mathlib.Core.Path.{_≡_, refl, sym, ap, ap₂, _∙_}
 use mathlib.Core.Bool.{Bool, true, false, _&&_}
 use mathlib.Core.List.{List, [], _∷_, _++_, map, flatMap, reverse, reverse-cons, reverse-append, reverse-reverse, append-nil}
 use lib.ListN.{length}
-use lib.Dec.{eqb, ltb}
-use borrow.Author.Tests.{eqb-true, eq-eqb, ltb-true, lt-ltb}
+use lib.Dec.{eqb}
+use borrow.Author.Tests.{eqb-true, eq-eqb}
 use Rattle.spec.specs.declared.HopField.{HopField}
-use Rattle.spec.specs.declared.InfoField.{InfoField}
 use Rattle.spec.specs.declared.AsEntry.{AsEntry}
 use Rattle.spec.specs.declared.Edge.{Edge}
 use Rattle.spec.specs.Limits.{infoSize, maxTime}
 use Rattle.spec.specs.Basics.{if_then_else_, range}
 use Rattle.spec.specs.Octets.{octets2, octets4}
 use Rattle.spec.specs.Book.{Segment, timestampAt, idAt, macAt, asEntryAt, segmentAt}
-use Rattle.spec.specs.Edges.{entryOf}
 use Rattle.spec.specs.Assembly.{least, unitsOf, life, mtusAt, hopOf, hopCount, usedEntries, interfacesAt, inDirection, hopsOf, interfacesOf, mtusOf, infoOf, expiryOf, segmentOf, hopsOn, interfacesOn, mtusOn, infoOn, expiryOn, isPeerHop, isPeerEdge, atShortcut, foldStep, foldMacs, idBelow, stopAt}
-use Rattle.spec.specs.Records.{bit, hopOctets, infoOctets, interfaceAsOctets, interfaceIdOctets}
+use Rattle.spec.specs.Records.{hopOctets, infoOctets, interfaceAsOctets, interfaceIdOctets}
 use Rattle.spec.proofs.Membership.{not-both}
 use Rattle.spec.proofs.Lists.{map-append, map-reverse, range-suc, range-up, range-down, flatMap-append}
 use Rattle.spec.proofs.ByteLaws.{info-length}

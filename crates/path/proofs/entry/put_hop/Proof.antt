@@ -1,7 +1,7 @@
 -- `put_hop` meets its contract.
 -- Assumes nothing.
 use native.Mathlib.Omega.{arith}
-use mathlib.Core.Path.{sym, ap, _∙_}
+use mathlib.Core.Path.{sym, _∙_}
 use Rattle.path.proofs.Showing.{link-wrote, own-wrote}
 use borrow.Author.Needs.{needs}
 use Rattle.path.proofs.entry.put_hop.Statement.{statement}
