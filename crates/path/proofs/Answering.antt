@@ -5,21 +5,29 @@ use native.Mathlib.Omega.{arith}
 use denote.Enum.Declared.{tagOf}
 use types.Run.{OneOf}
 use mathlib.Core.Path.{_≡_, refl, sym, ap, ap₂, _∙_, subst}
-use mathlib.Core.Logic.{inl, inr}
-use mathlib.Core.List.{List, [], _∷_}
-use lib.ListN.{length}
+use mathlib.Core.Logic.{inl, inr, ⊎-elim}
+use mathlib.Core.List.{List, [], _∷_, _++_, map, flatMap, List·Memᴰ as Mem}
+use lib.ListN.{length, length-map}
 use Rattle.spec.specs.declared.IsdAsn.{IsdAsn}
+use Rattle.spec.specs.declared.Edge.{Edge}
 use Rattle.spec.specs.declared.Refusal.{Refusal}
 use Rattle.spec.specs.declared.Refusal.the-variants.{Small, Stranger as StrangerRefusal}
 use Rattle.spec.specs.declared.Verdict.the-variants.{Accepted}
 use Rattle.spec.specs.declared.PathAnswer.{PathAnswer}
 use Rattle.spec.specs.declared.PathAnswer.the-variants.{Refused as RefusedPath}
-use Rattle.spec.specs.Limits.{pathSize}
+use Rattle.spec.specs.Limits.{maxEdges, maxMtu, maxTime, pathSize}
+use Rattle.spec.specs.Basics.{range, padded}
+use Rattle.spec.specs.Octets.{octets2}
 use Rattle.spec.specs.Book.{verdict}
-use Rattle.spec.specs.Chains.{IsChain}
-use Rattle.spec.specs.Router.{isAlong}
-use Rattle.spec.specs.Answers.{Assembled, assembly, pathAnswer, refusedPath}
+use Rattle.spec.specs.Order.{solutionEdge}
+use Rattle.spec.specs.Assembly.{least, isPeerEdge, atShortcut, isPeerHop, hopCount, usedEntries, hopOf, mtusAt, interfacesAt, stopAt, hopsOf, interfacesOf, mtusOf, infoOf, expiryOf, segmentOf, infoOn, hopsOn, interfacesOn, mtusOn, expiryOn, CombinedPath, combinedPath, outcome}
+use Rattle.spec.specs.Records.{recordEdge, solutionIn, solutionOctets}
+use Rattle.spec.specs.ByRecord.{edgesIn as edgesNamed}
+use Rattle.spec.specs.Answers.{Assembled, assembly, leftBy, pathAnswer, refusedPath}
+use Rattle.spec.proofs.Membership.{map-mem}
 use Rattle.spec.proofs.BookLaws.{stored}
+use Rattle.spec.proofs.ByteLaws.{edges-back}
+use Rattle.spec.proofs.LengthLaws.{solution-length}
 use Rattle.spec.proofs.AnswerLaws.{assembly-refused, assembly-small}
 use Rattle.output.specs.Write.{zeroed}
 use Rattle.output.proofs.Writing.{zeroed-all}
@@ -30,8 +38,8 @@ use Rattle.graph.specs.declared.Chain.{Chain}
 use Rattle.graph.specs.declared.Chain.the-variants.{Refused, Stranger, One, Two, Three}
 use Rattle.graph.specs.Recorded.{chainEdges, saidBy, recorded}
 use Rattle.graph.proofs.RecordedLaws.{OfChain, said-refused, said-stranger, said-one, said-two, said-three}
-use Rattle.path.specs.Usable.{Ready}
-use Rattle.path.specs.Whole.{UsableChain}
+use Rattle.path.specs.Usable.{Ready, edgeBy, Usable}
+use Rattle.path.specs.Whole.{edgeIn, edgesIn, UsableEdges, UsableRecord}
 
 -- what is left where a chain is not refused, and where it is no stranger's
 abbrev pub NotRefused : Chain → Type 0
@@ -52,16 +60,126 @@ stranger-not (inr (inl q)) = omega arith
 stranger-not (inr (inr (inl q))) = omega arith
 stranger-not (inr (inr (inr q))) = omega arith
 
+-- ---- how many edges a chain has
+
+pub no-edges : (chain : Chain) → OneOf (0 ∷ 1 ∷ []) (tagOf the-type chain) → 0 ≡ length (chainEdges chain)
+no-edges (Refused r) h = refl
+no-edges Stranger h = refl
+no-edges (One e) h = absurd (⊎-elim (λ q. omega arith) (λ q. omega arith) h)
+no-edges (Two e f) h = absurd (⊎-elim (λ q. omega arith) (λ q. omega arith) h)
+no-edges (Three e f g) h = absurd (⊎-elim (λ q. omega arith) (λ q. omega arith) h)
+
+edges-few : (chain : Chain) → length (chainEdges chain) ≤ maxEdges
+edges-few (One e) = omega arith
+edges-few (Two e f) = omega arith
+edges-few (Three e f g) = omega arith
+edges-few Stranger = omega arith
+edges-few (Refused r) = omega arith
+
+-- ---- assembly knows an edge by what a record has of it
+
+abbrev again : Edge → Edge
+again e = edgeBy (solutionEdge e)
+
+module _ (b : List ℕ) (e : Edge) where
+  same-info : infoOn b (again e) ≡ infoOn b e
+  unfolding infoOn infoOf hopCount stopAt isPeerEdge segmentOf solutionEdge
+  same-info = refl
+
+  same-hops : hopsOn b (again e) ≡ hopsOn b e
+  unfolding hopsOn hopsOf usedEntries hopCount hopOf isPeerHop atShortcut isPeerEdge segmentOf solutionEdge
+  same-hops = refl
+
+  same-interfaces : interfacesOn b (again e) ≡ interfacesOn b e
+  unfolding interfacesOn interfacesOf interfacesAt usedEntries hopCount hopOf isPeerHop atShortcut isPeerEdge segmentOf solutionEdge
+  same-interfaces = refl
+
+  same-mtus : mtusOn b (again e) ≡ mtusOn b e
+  unfolding mtusOn mtusOf mtusAt usedEntries hopCount isPeerHop atShortcut isPeerEdge segmentOf solutionEdge
+  same-mtus = refl
+
+  same-expiry : expiryOn b (again e) ≡ expiryOn b e
+  unfolding expiryOn expiryOf hopsOf usedEntries hopCount hopOf isPeerHop atShortcut isPeerEdge segmentOf solutionEdge
+  same-expiry = refl
+
+  same-usable : Usable b e → Usable b (again e)
+  unfolding segmentOf solutionEdge
+  same-usable u = record { position = u .position; shortcut = u .shortcut; peer = u .peer }
+
+module _ {A : Type 0} where
+  map-again : (f : Edge → A) → ((e : Edge) → f (again e) ≡ f e) → (c : List Edge) → map f (map again c) ≡ map f c
+  map-again f h [] = refl
+  map-again f h (e ∷ c) = ap₂ (λ x l. x ∷ l) (h e) (map-again f h c)
+
+  flat-again : (f : Edge → List A) → ((e : Edge) → f (again e) ≡ f e) → (c : List Edge) → flatMap f (map again c) ≡ flatMap f c
+  unfolding flatMap
+  flat-again f h [] = refl
+  flat-again f h (e ∷ c) = ap₂ (λ x l. x ++ l) (h e) (flat-again f h c)
+
+same-path : (b : List ℕ) (c : List Edge) → combinedPath b (map again c) ≡ combinedPath b c
+unfolding combinedPath
+same-path b c =
+    let i = map-again (infoOn b) (same-info b) c in
+    let h = flat-again (hopsOn b) (same-hops b) c in
+    let s = flat-again (interfacesOn b) (same-interfaces b) c in
+    let m = ap (least maxMtu) (flat-again (mtusOn b) (same-mtus b) c) in
+    let x = ap (least maxTime) (map-again (expiryOn b) (same-expiry b) c) in
+    λ k. record { infos = i k; hops = h k; interfaces = s k; mtu = m k; expiry = x k }
+
+same-answer : (b : List ℕ) (bytes : ℕ) (c : List Edge) → pathAnswer b bytes (map again c) ≡ pathAnswer b bytes c
+unfolding pathAnswer
+same-answer b bytes c = ap (λ (p : CombinedPath). (outcome p, leftBy (outcome p) bytes p)) (same-path b c)
+
+-- ---- the edges of a chain's record
+
+map-map : {A B C : Type 0} (f : A → B) (g : B → C) (xs : List A) → map g (map f xs) ≡ map (λ x. g (f x)) xs
+map-map f g [] = refl
+map-map f g (x ∷ xs) = ap (λ l. g (f x) ∷ l) (map-map f g xs)
+
+record-edges : (c : List Edge) → map (recordEdge (solutionOctets c)) (range 0 (length c)) ≡ map solutionEdge c
+unfolding edgesNamed solutionIn solutionOctets padded octets2
+record-edges c = edges-back c
+
+edges-again : (c : List Edge) → edgesIn (solutionOctets c) (length c) ≡ map again c
+unfolding edgesIn edgeIn
+edges-again c =
+    sym (map-map (recordEdge (solutionOctets c)) edgeBy (range 0 (length c)))
+    ∙ ap (map edgeBy) (record-edges c)
+    ∙ map-map solutionEdge edgeBy c
+
 -- ---- what the assembly of a chain goes by
 
-pub chain-usable : (b : List ℕ) (src dst : IsdAsn) (chain : Chain) → IsChain b src dst (chainEdges chain) → UsableChain b chain
-unfolding isAlong
-chain-usable b src dst chain h =
-    record {
-      edges = λ e m.
-          let s = stored b (h .stored e m) in
-          record { position = s .position; shortcut = s .edge .shortcut; peer = s .edge .peer; direction = s .edge .direction };
-    }
+module _ (b : List ℕ) (src dst : IsdAsn) (given : List ℕ) (chain : Chain) (of : OfChain b src dst given (chainEdges chain)) (n : ℕ) (q : n ≡ length (chainEdges chain)) where
+  abbrev c : List Edge
+  c = chainEdges chain
+
+  chain-edges : edgesIn given n ≡ map again c
+  chain-edges = ap₂ edgesIn (of .its) q ∙ edges-again c
+
+  pub chain-usable : UsableRecord b given n
+  chain-usable =
+      record {
+        edges = subst (UsableEdges b) (sym chain-edges) usable;
+        room = omega (arith, ap length (of .its), solution-length c (edges-few chain));
+      }
+    where
+      edge : (e : Edge) → Mem e c → Usable b e
+      edge e m =
+          let s = stored b (of .chain .stored e m) in
+          record { position = s .position; shortcut = s .edge .shortcut; peer = s .edge .peer }
+
+      usable : UsableEdges b (map again c)
+      usable =
+          record {
+            edges = λ e m. let w = map-mem again c m in subst (Usable b) (sym (w .2)) (same-usable b (w .0) (edge (w .0) (w .1)));
+            few = omega (arith, length-map c again, edges-few chain);
+          }
+
+  pub path-answer : (bytes : ℕ) → pathSize ≤ bytes → (r : PathAnswer) (o : List ℕ)
+      → (r ≡ pathAnswer b bytes (edgesIn given n) .0) × (o ≡ pathAnswer b bytes (edgesIn given n) .1)
+      → _≡_ {A = Assembled} (r, o) (assembly b src dst given bytes)
+  path-answer bytes room r o p =
+      ap₂ (λ x l. (x, l)) (p .0) (p .1) ∙ ap (pathAnswer b bytes) chain-edges ∙ same-answer b bytes c ∙ sym (of .answer bytes room)
 
 pub table-ready : (b table : List ℕ) → verdict b ≡ Accepted → table ≡ openTable b → Ready b table
 table-ready b table ok q = record { ok = ok; table = q ∙ open-accepted b refl ok }
@@ -104,8 +222,3 @@ module _ (b : List ℕ) (src dst : IsdAsn) (given : List ℕ) (chain : Chain) (s
     pub stranger-answer : chain ≡ Stranger → pathSize ≤ length out
         → _≡_ {A = Assembled} (RefusedPath StrangerRefusal, zero) (assembly b src dst given (length out))
     stranger-answer q room = refuses StrangerRefusal (said-stranger b src dst given chain said q .answer (length out) room)
-
-  pub path-answer : NotRefused chain → NotStranger chain → (bytes : ℕ) → pathSize ≤ bytes → (r : PathAnswer) (o : List ℕ)
-      → (r ≡ pathAnswer b bytes (chainEdges chain) .0) × (o ≡ pathAnswer b bytes (chainEdges chain) .1)
-      → _≡_ {A = Assembled} (r, o) (assembly b src dst given bytes)
-  path-answer h n bytes room r o p = ap₂ (λ x l. (x, l)) (p .0) (p .1) ∙ sym (chain-by h n .answer bytes room)

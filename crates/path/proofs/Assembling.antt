@@ -6,7 +6,7 @@ use native.Mathlib.Omega.{arith}
 use mathlib.Core.Path.{_≡_, refl, sym, ap, ap₂, _∙_, subst}
 use mathlib.Core.Bool.{Bool, true, false}
 use mathlib.Core.List.{List, [], _∷_, _++_, map, flatMap, append-assoc, List·Memᴰ as Mem, List·Memᴰ·head as head, List·Memᴰ·tail as tail}
-use lib.ListN.{length, getD, take, drop, replicate, length-append, length-map, length-take, length-drop, length-replicate}
+use lib.ListN.{length, getD, take, drop, replicate, length-append, length-map, length-drop}
 use lib.Seq.{length-take-le, drop-at}
 use Rattle.spec.specs.declared.IsdAsn.{IsdAsn}
 use Rattle.spec.specs.declared.HopField.{HopField}
@@ -15,31 +15,26 @@ use Rattle.spec.specs.declared.Edge.{Edge}
 use Rattle.spec.specs.declared.Path.{Path as PathHead}
 use Rattle.spec.specs.declared.PathAnswer.{PathAnswer}
 use Rattle.spec.specs.declared.PathAnswer.the-variants.{Path, Loop, Bare}
-use Rattle.spec.specs.Limits.{maxEdges, maxEntries, maxMtu, maxTime, pathSize, pathHeadSize, infoSize, hopSize, interfaceSize}
+use Rattle.spec.specs.Limits.{maxEdges, maxEntries, maxMtu, maxTime, pathSize, pathHeadSize, infoSize, hopSize}
 use Rattle.spec.specs.Basics.{if_then_else_, range, padded}
-use Rattle.spec.specs.Octets.{Bytes, be64, octets2, octets4, octets8}
+use Rattle.spec.specs.Octets.{Bytes, octets2, octets4, octets8}
 use Rattle.spec.specs.Book.{Segment, isdAsnAt}
-use Rattle.spec.specs.Assembly.{least, hopCount, usedEntries, interfaceIf, interfacesAt, interfacesOf, inDirection, segmentOf, infoOn, hopsOn, interfacesOn, mtusOn, expiryOn, CombinedPath, combinedPath, isLoop, isBare, outcome}
+use Rattle.spec.specs.Assembly.{least, hopCount, usedEntries, interfaceIf, interfacesAt, interfacesOf, segmentOf, infoOn, hopsOn, interfacesOn, mtusOn, expiryOn, CombinedPath, combinedPath, isLoop, isBare, outcome}
 use Rattle.spec.specs.Records.{infoOctets, hopOctets, asOctets, interfaceAsOctets, interfaceIdOctets, noInterface, pathHead, pathHeadOctets, pathOctets}
 use Rattle.spec.specs.Answers.{leftBy, pathAnswer}
 use Rattle.spec.proofs.Membership.{map-mem, flatMap-mem}
-use Rattle.spec.proofs.Lists.{length-range}
 use Rattle.spec.proofs.ByteLaws.{GoodHop, octets8-back, isdAsnAt-shift, info-length, hop-length, read-all}
 use Rattle.spec.proofs.BookLaws.{AcceptedBook, hops-good}
 use Rattle.spec.proofs.PathLaws.{direction-length, used-length, hops-length, head-length}
 use Rattle.spec.proofs.Bounds.{flat-exact}
-use Rattle.spec.proofs.ReadBack.{GoodInterface, good-interfaces}
+use Rattle.spec.proofs.ReadBack.{good-interfaces}
 use Rattle.output.specs.Write.{written, zeroed}
 use Rattle.output.proofs.Writing.{written-pair, written-length, written-within, written-next, zeroed-rest, zeroed-all}
-use Rattle.path.specs.declared.Part.the-variants.{Hops, Ases, Ids}
-use Rattle.graph.specs.declared.Chain.{Chain}
-use Rattle.graph.specs.declared.Chain.the-variants.{Refused, Stranger, One, Two, Three}
 use Rattle.path.specs.declared.record.Front.{Front}
 use Rattle.path.specs.Usable.{Usable}
 use Rattle.path.specs.Places.{Wrote}
-use Rattle.graph.specs.Recorded.{chainEdges}
-use Rattle.path.specs.Parts.{infoBytes, edgeBytes}
-use Rattle.path.specs.Whole.{UsableChain, numberAt, numbersIn, someFrequent, frontBytes, Fronted}
+use Rattle.path.specs.Parts.{Hops, Ases, Ids, infoBytes, edgeBytes}
+use Rattle.path.specs.Whole.{UsableEdges, numberAt, numbersIn, someFrequent, frontBytes, Fronted}
 use Rattle.path.proofs.Writes.{wrote-join}
 use Rattle.path.proofs.Standing.{count-most}
 use Rattle.path.proofs.Walking.{flat-map, flat-flat}
@@ -101,13 +96,6 @@ module _ (b : List ℕ) (a : AcceptedBook b) (e : Edge) (u : Usable b e) where
         count-most b a e u,
       )
 
-edges-few : (chain : Chain) → length (chainEdges chain) ≤ maxEdges
-edges-few (One e) = omega arith
-edges-few (Two e f) = omega arith
-edges-few (Three e f g) = omega arith
-edges-few Stranger = omega arith
-edges-few (Refused r) = omega arith
-
 pub record Lengths (b : List ℕ) (c : List Edge) : Type 0 where
   pub infos : length (flatMap (infoBytes b) c) ≡ infoSize * length c
   pub hops : length (flatMap (edgeBytes b Hops) c) ≡ hopSize * length (combinedPath b c .hops)
@@ -122,21 +110,18 @@ module _ (b : List ℕ) (bytes : Bytes b) where
   unfolding combinedPath hopsOn segmentOf
   good-hops c h m = let w = flatMap-mem (hopsOn b) c m in hops-good b bytes (w .0 .position) (w .0) (w .2)
 
-  pub lengths : AcceptedBook b → (chain : Chain) → UsableChain b chain → Lengths b (chainEdges chain)
-  lengths a chain u =
+  pub lengths : AcceptedBook b → (c : List Edge) → UsableEdges b c → Lengths b c
+  lengths a c u =
       record {
         infos = ap length (infos-of b c) ∙ omega (arith, flat-exact infoOctets infoSize (p .infos) (λ i m. info-length i), infos-length);
         hops = ap length (hops-of b c) ∙ omega (arith, flat-exact hopOctets hopSize (p .hops) (λ h m. hop-length h (good-hops c h m)));
         ases = ap length (ases-of b c) ∙ omega (arith, flat-exact interfaceAsOctets 8 (p .interfaces) (λ i m. unfold interfaceAsOctets asOctets octets8 octets4 octets2 in refl));
         ids = ap length (ids-of b c) ∙ omega (arith, flat-exact interfaceIdOctets 2 (p .interfaces) (λ i m. unfold interfaceIdOctets octets2 in refl));
-        few-infos = edges-few chain;
-        few-hops = omega (arith, hops-most, edges-few chain);
-        few-interfaces = omega (arith, interfaces-most, edges-few chain);
+        few-infos = u .few;
+        few-hops = omega (arith, hops-most, u .few);
+        few-interfaces = omega (arith, interfaces-most, u .few);
       }
     where
-      c : List Edge
-      c = chainEdges chain
-
       p : CombinedPath
       p = combinedPath b c
 
@@ -194,16 +179,13 @@ getD-map f (x ∷ xs) (suc k) d = getD-map f xs k d
 regroup : (t i h a q : List ℕ) → (t ++ ((i ++ h) ++ a)) ++ q ≡ (t ++ (i ++ h)) ++ (a ++ q)
 regroup t i h a q = simp append-assoc
 
-module _ (b : List ℕ) (bytes : Bytes b) (accepted : AcceptedBook b) (chain : Chain) (u : UsableChain b chain) (d : List ℕ) (front : Front)
-    (f : Fronted b (chainEdges chain) d front) (room : pathSize ≤ length d) where
-  abbrev c : List Edge
-  c = chainEdges chain
-
+module _ (b : List ℕ) (bytes : Bytes b) (accepted : AcceptedBook b) (c : List Edge) (u : UsableEdges b c) (d : List ℕ) (front : Front)
+    (f : Fronted b c d front) (room : pathSize ≤ length d) where
   abbrev p : CombinedPath
-  p = combinedPath b (chainEdges chain)
+  p = combinedPath b c
 
-  sizes : Lengths b (chainEdges chain)
-  sizes = lengths b bytes accepted chain u
+  sizes : Lengths b c
+  sizes = lengths b bytes accepted c u
 
   same-length : length d ≡ length (f .before)
   same-length = ap length (f .bytes .bytes) ∙ written-length (f .before) pathHeadSize (frontBytes b c)
@@ -290,9 +272,9 @@ module _ (b : List ℕ) (bytes : Bytes b) (accepted : AcceptedBook b) (chain : C
 
   pub head-is : front .ases < front .ids → (x y z m e : ℕ) (g l : IsdAsn)
       → x ≡ (front .hops - pathHeadSize) / infoSize → y ≡ (front .ases - front .hops) / hopSize → z ≡ (front .ids - front .ases) / 8
-      → m ≡ least maxMtu (flatMap (mtusOn b) (chainEdges chain)) → e ≡ least maxTime (map (expiryOn b) (chainEdges chain))
+      → m ≡ least maxMtu (flatMap (mtusOn b) c) → e ≡ least maxTime (map (expiryOn b) c)
       → g ≡ isdAsnAt d (front .ases) → l ≡ isdAsnAt d (front .ids - 8)
-      → record { infos = x; hops = y; interfaces = z; mtu = m; expiry = e; first = g; last = l } ≡ pathHead (combinedPath b (chainEdges chain))
+      → record { infos = x; hops = y; interfaces = z; mtu = m; expiry = e; first = g; last = l } ≡ pathHead (combinedPath b c)
   unfolding pathHead combinedPath
   head-is some x y z m e g l qx qy qz qm qe qg ql =
       let s = sizes in
@@ -352,32 +334,32 @@ filled-up before top xs d₁ d₂ d₃ end w l room q₂ q₃ =
 octets-are : (h i k x y : List ℕ) → (((h ++ i) ++ k) ++ x) ++ y ≡ h ++ (((i ++ k) ++ x) ++ y)
 octets-are h i k x y = simp append-assoc
 
-module _ (b : List ℕ) (bytes : Bytes b) (accepted : AcceptedBook b) (chain : Chain) (u : UsableChain b chain) (d : List ℕ) (front : Front)
-    (f : Fronted b (chainEdges chain) d front) (room : pathSize ≤ length d) where
+module _ (b : List ℕ) (bytes : Bytes b) (accepted : AcceptedBook b) (c : List Edge) (u : UsableEdges b c) (d : List ℕ) (front : Front)
+    (f : Fronted b c d front) (room : pathSize ≤ length d) where
   abbrev whole : CombinedPath
-  whole = combinedPath b (chainEdges chain)
+  whole = combinedPath b c
 
-  path-octets : pathOctets whole ≡ pathHeadOctets (pathHead whole) ++ (frontBytes b (chainEdges chain) ++ flatMap (edgeBytes b Ids) (chainEdges chain))
+  path-octets : pathOctets whole ≡ pathHeadOctets (pathHead whole) ++ (frontBytes b c ++ flatMap (edgeBytes b Ids) c)
   unfolding pathOctets frontBytes
   path-octets =
       octets-are (pathHeadOctets (pathHead whole)) _ _ _ _
       ∙ ap₂ (λ x y. pathHeadOctets (pathHead whole) ++ (x ++ y))
-      (ap₂ (λ x y. x ++ y) (ap₂ (λ x y. x ++ y) (sym (infos-of b (chainEdges chain))) (sym (hops-of b (chainEdges chain)))) (sym (ases-of b (chainEdges chain))))
-      (sym (ids-of b (chainEdges chain)))
+      (ap₂ (λ x y. x ++ y) (ap₂ (λ x y. x ++ y) (sym (infos-of b c)) (sym (hops-of b c))) (sym (ases-of b c)))
+      (sym (ids-of b c))
 
-  pub whole-is : (d₁ : List ℕ) (end : ℕ) (h : PathHead) (d₂ d₃ : List ℕ) → Wrote d (front .ids) (flatMap (edgeBytes b Ids) (chainEdges chain)) d₁ end
-      → h ≡ pathHead (combinedPath b (chainEdges chain)) → d₂ ≡ written d₁ 0 (pathHeadOctets h) → d₃ ≡ zeroed d₂ end
-      → d₃ ≡ padded (length d) (pathOctets (combinedPath b (chainEdges chain)))
+  pub whole-is : (d₁ : List ℕ) (end : ℕ) (h : PathHead) (d₂ d₃ : List ℕ) → Wrote d (front .ids) (flatMap (edgeBytes b Ids) c) d₁ end
+      → h ≡ pathHead (combinedPath b c) → d₂ ≡ written d₁ 0 (pathHeadOctets h) → d₃ ≡ zeroed d₂ end
+      → d₃ ≡ padded (length d) (pathOctets (combinedPath b c))
   whole-is d₁ end h d₂ d₃ w q q₂ q₃ =
-      let s = lengths b bytes accepted chain u in
-      let same : length d ≡ length (f .before) = same-length b bytes accepted chain u d front f room in
-      filled-up (f .before) (pathHeadOctets (pathHead whole)) (frontBytes b (chainEdges chain) ++ flatMap (edgeBytes b Ids) (chainEdges chain)) d₁ d₂ d₃ end
+      let s = lengths b bytes accepted c u in
+      let same : length d ≡ length (f .before) = same-length b bytes accepted c u d front f room in
+      filled-up (f .before) (pathHeadOctets (pathHead whole)) (frontBytes b c ++ flatMap (edgeBytes b Ids) c) d₁ d₂ d₃ end
       (wrote-join (f .bytes) w) (head-length (pathHead whole))
       (omega (
         arith,
         same,
-        length-append (frontBytes b (chainEdges chain)) (flatMap (edgeBytes b Ids) (chainEdges chain)),
-        front-length b bytes accepted chain u d front f room,
+        length-append (frontBytes b c) (flatMap (edgeBytes b Ids) c),
+        front-length b bytes accepted c u d front f room,
         s .infos,
         s .hops,
         s .ases,
@@ -394,10 +376,10 @@ module _ (b : List ℕ) (bytes : Bytes b) (accepted : AcceptedBook b) (chain : C
   module _ (n : ℕ) (same : length d ≡ n) (t : Bool)
       (frequent : t ≡ someFrequent (numbersIn d (front .ases) ((front .ids - front .ases) / 8)) (numbersIn d (front .ases) ((front .ids - front .ases) / 8))) where
     told : t ≡ isLoop (whole .interfaces)
-    told = frequent ∙ loop-read b bytes accepted chain u d front f room
+    told = frequent ∙ loop-read b bytes accepted c u d front f room
 
     answer : (r : PathAnswer) → outcome whole ≡ r → (d′ : List ℕ) → d′ ≡ leftBy r n whole
-        → (r ≡ pathAnswer b n (chainEdges chain) .0) × (d′ ≡ pathAnswer b n (chainEdges chain) .1)
+        → (r ≡ pathAnswer b n c .0) × (d′ ≡ pathAnswer b n c .1)
     unfolding pathAnswer
     answer r q d′ e = (sym q, e ∙ ap (λ x. leftBy x n whole) (sym q))
 
@@ -413,31 +395,31 @@ module _ (b : List ℕ) (bytes : Bytes b) (accepted : AcceptedBook b) (chain : C
     full-is (i ∷ is) h = unfold isBare in refl
 
     pub answer-loop : t ≡ true → (d′ : List ℕ) → d′ ≡ zeroed d 0
-        → (Loop ≡ pathAnswer b n (chainEdges chain) .0) × (d′ ≡ pathAnswer b n (chainEdges chain) .1)
+        → (Loop ≡ pathAnswer b n c .0) × (d′ ≡ pathAnswer b n c .1)
     answer-loop q d′ e = answer Loop loops d′ (zeros d′ e)
       where
         loops : outcome whole ≡ Loop
         loops = unfold outcome in (ap (λ (s : Bool). if s then Loop else if isBare (whole .interfaces) then Bare else Path) (sym told ∙ q))
 
     pub answer-bare : t ≡ false → (front .ids - front .ases) / 8 ≡ 0 → (d′ : List ℕ) → d′ ≡ zeroed d 0
-        → (Bare ≡ pathAnswer b n (chainEdges chain) .0) × (d′ ≡ pathAnswer b n (chainEdges chain) .1)
+        → (Bare ≡ pathAnswer b n c .0) × (d′ ≡ pathAnswer b n c .1)
     answer-bare q none d′ e = answer Bare bare d′ (zeros d′ e)
       where
         bare : outcome whole ≡ Bare
         bare =
             unfold outcome in
             (ap₂ (λ (s v : Bool). if s then Loop else if v then Bare else Path) (sym told ∙ q)
-            (bare-is (whole .interfaces) (sym (interfaces-count b bytes accepted chain u d front f room .0) ∙ none)))
+            (bare-is (whole .interfaces) (sym (interfaces-count b bytes accepted c u d front f room .0) ∙ none)))
 
-    pub answer-path : t ≡ false → ((front .ids - front .ases) / 8 ≡ 0 → ⊥) → (d′ : List ℕ) → d′ ≡ padded (length d) (pathOctets (combinedPath b (chainEdges chain)))
-        → (Path ≡ pathAnswer b n (chainEdges chain) .0) × (d′ ≡ pathAnswer b n (chainEdges chain) .1)
+    pub answer-path : t ≡ false → ((front .ids - front .ases) / 8 ≡ 0 → ⊥) → (d′ : List ℕ) → d′ ≡ padded (length d) (pathOctets (combinedPath b c))
+        → (Path ≡ pathAnswer b n c .0) × (d′ ≡ pathAnswer b n c .1)
     answer-path q some d′ e = answer Path path d′ (e ∙ ap (λ k. padded k (pathOctets whole)) same)
       where
         path : outcome whole ≡ Path
         path =
             unfold outcome in
             (ap₂ (λ (s v : Bool). if s then Loop else if v then Bare else Path) (sym told ∙ q)
-            (full-is (whole .interfaces) (λ z. some (interfaces-count b bytes accepted chain u d front f room .0 ∙ z))))
+            (full-is (whole .interfaces) (λ z. some (interfaces-count b bytes accepted c u d front f room .0 ∙ z))))
 
 -- ---- the bytes before the infos
 

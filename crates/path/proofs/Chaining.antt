@@ -1,109 +1,101 @@
--- The edges of a chain, one after the other.
+-- The edges of a record, one after the other.
 -- Assumes nothing.
-use Prim.Native.Nat.{ℕ, _+_, min}
+use Prim.Native.Nat.{ℕ, _+_, _*_, _≤_, _<_, min}
+use native.Mathlib.Nat.{le-antisymm}
 use native.Mathlib.Omega.{arith}
-use denote.Enum.Declared.{tagOf}
-use types.Run.{OneOf}
-use mathlib.Core.Logic.{⊎-elim}
-use mathlib.Core.Path.{_≡_, refl, sym, ap, ap₂, _∙_, subst}
-use mathlib.Core.List.{List, [], _∷_, _++_, map, flatMap, append-nil, List·Memᴰ·head as head, List·Memᴰ·tail as tail}
+use mathlib.Core.Path.{_≡_, refl, sym, ap, _∙_, subst}
+use mathlib.Core.List.{List, [], _∷_, _++_, map, flatMap, List·Memᴰ as Mem}
+use lib.ListN.{length, length-map}
 use Rattle.spec.specs.declared.Edge.{Edge}
+use Rattle.spec.specs.declared.SolutionEdge.{SolutionEdge}
+use Rattle.spec.specs.Basics.{range}
 use Rattle.spec.specs.Assembly.{least}
-use Rattle.graph.proofs.Chain.{the-type}
-use Rattle.graph.specs.declared.Chain.{Chain}
-use Rattle.graph.specs.declared.Chain.the-variants.{Refused, Stranger, One, Two, Three}
-use Rattle.path.specs.Usable.{Usable}
+use Rattle.spec.specs.Records.{recordEdge}
+use Rattle.spec.proofs.Lists.{map-append, flatMap-append, length-range}
+use Rattle.spec.proofs.Membership.{mem-map}
+use Rattle.spec.proofs.BookLaws.{mem-range}
+use Rattle.path.specs.Usable.{edgeBy, Usable}
 use Rattle.path.specs.Places.{Wrote}
-use Rattle.graph.specs.Recorded.{chainEdges}
-use Rattle.path.specs.Whole.{UsableChain}
+use Rattle.path.specs.Whole.{edgeIn, edgesIn, UsableRecord}
 use Rattle.path.proofs.Writes.{wrote-none, wrote-join, wrote-as}
-use Rattle.path.proofs.Showing.{least-append}
+use Rattle.path.proofs.Showing.{least-append, least-one}
+use Rattle.path.proofs.Walking.{range-more, flat-one}
 
--- the last arm of a match: neither One nor Two nor Three
-pub no-edges : (chain : Chain) → OneOf (0 ∷ 1 ∷ []) (tagOf the-type chain) → chainEdges chain ≡ []
-no-edges (Refused r) h = refl
-no-edges Stranger h = refl
-no-edges (One e) h = absurd (⊎-elim (λ q. omega arith) (λ q. omega arith) h)
-no-edges (Two e f) h = absurd (⊎-elim (λ q. omega arith) (λ q. omega arith) h)
-no-edges (Three e f g) h = absurd (⊎-elim (λ q. omega arith) (λ q. omega arith) h)
+module _ (given : List ℕ) where
+  edges-length : (n : ℕ) → length (edgesIn given n) ≡ n
+  unfolding edgesIn
+  edges-length n = length-map (range 0 n) (edgeIn given) ∙ length-range 0 n
 
-module _ (b : List ℕ) (chain : Chain) (u : UsableChain b chain) where
-  pub of-one : {e : Edge} → chain ≡ One e → Usable b e
-  of-one {e} q = (subst (UsableChain b) q u) .edges e (head refl)
+  edges-mem : (n x : ℕ) → x < n → Mem (edgeBy (recordEdge given x)) (edgesIn given n)
+  unfolding edgesIn edgeIn
+  edges-mem n x h = mem-map (edgeIn given) (mem-range 0 n x (omega arith) (omega arith))
 
-  pub of-two : {e f : Edge} → chain ≡ Two e f → Usable b e × Usable b f
-  of-two {e} {f} q =
-      let v : UsableChain b (Two e f) = subst (UsableChain b) q u in
-      (v .edges e (head refl), v .edges f (tail (head refl)))
+  edges-more : (x : ℕ) → edgesIn given (x + 1) ≡ edgesIn given x ++ (edgeBy (recordEdge given x) ∷ [])
+  unfolding edgesIn edgeIn
+  edges-more x = range-more (edgeIn given) x
 
-  pub of-three : {e f g : Edge} → chain ≡ Three e f g → Usable b e × Usable b f × Usable b g
-  of-three {e} {f} {g} q =
-      let v : UsableChain b (Three e f g) = subst (UsableChain b) q u in
-      (v .edges e (head refl), v .edges f (tail (head refl)), v .edges g (tail (tail (head refl))))
+  module _ (b : List ℕ) (n : ℕ) (u : UsableRecord b given n) where
+    pub few-edges : n ≤ 3
+    few-edges = omega (arith, u .edges .few, edges-length n)
 
--- ---- what is written of each edge
+    pub edge-fits : (x : ℕ) → x < n → 4 + 4 * x + 4 ≤ length given
+    edge-fits x h = omega (arith, few-edges, u .room)
 
-module _ (h : Edge → List ℕ) (chain : Chain) where
-  pub all-none : OneOf (0 ∷ 1 ∷ []) (tagOf the-type chain) → (d : List ℕ) (at : ℕ) → Wrote d at (flatMap h (chainEdges chain)) d at
-  unfolding flatMap
-  all-none q d at = wrote-as (ap (flatMap h) (sym (no-edges chain q))) (wrote-none d at)
+    pub edge-usable : (x : ℕ) → x < n → (e : SolutionEdge) → e ≡ recordEdge given x → Usable b (edgeBy e)
+    edge-usable x h e q = subst (λ s. Usable b (edgeBy s)) (sym q) (u .edges .edges (edgeBy (recordEdge given x)) (edges-mem n x h))
 
-  pub all-one : {e : Edge} → chain ≡ One e → {d : List ℕ} {at : ℕ} {d′ : List ℕ} {r : ℕ} → Wrote d at (h e) d′ r
-      → Wrote d at (flatMap h (chainEdges chain)) d′ r
-  unfolding flatMap
-  all-one {e} q w = wrote-as (sym (append-nil (h e)) ∙ ap (λ c. flatMap h (chainEdges c)) (sym q)) w
+  -- ---- what is written of each edge
 
-  pub all-two : {e f : Edge} → chain ≡ Two e f → {d : List ℕ} {at : ℕ} {d₁ : List ℕ} {r₁ : ℕ} {d₂ : List ℕ} {r₂ : ℕ} → Wrote d at (h e) d₁ r₁ → Wrote d₁ r₁ (h f) d₂ r₂
-      → Wrote d at (flatMap h (chainEdges chain)) d₂ r₂
-  unfolding flatMap
-  all-two {e} {f} q v w =
-      wrote-as (ap (λ l. h e ++ l) (sym (append-nil (h f))) ∙ ap (λ c. flatMap h (chainEdges c)) (sym q)) (wrote-join v w)
+  module _ (h : Edge → List ℕ) where
+    flat-more : (x : ℕ) (e : SolutionEdge) → e ≡ recordEdge given x → flatMap h (edgesIn given x) ++ h (edgeBy e) ≡ flatMap h (edgesIn given (x + 1))
+    flat-more x e q =
+        ap (λ l. flatMap h (edgesIn given x) ++ l) (sym (flat-one h (edgeBy e)))
+        ∙ sym (flatMap-append h (edgesIn given x) (edgeBy e ∷ []))
+        ∙ ap (λ s. flatMap h (edgesIn given x ++ (edgeBy s ∷ []))) q
+        ∙ ap (flatMap h) (sym (edges-more x))
 
-  pub all-three : {e f g : Edge} → chain ≡ Three e f g
-      → {d : List ℕ} {at : ℕ} {d₁ : List ℕ} {r₁ : ℕ} {d₂ : List ℕ} {r₂ : ℕ} {d₃ : List ℕ} {r₃ : ℕ}
-      → Wrote d at (h e) d₁ r₁ → Wrote d₁ r₁ (h f) d₂ r₂ → Wrote d₂ r₂ (h g) d₃ r₃ → Wrote d at (flatMap h (chainEdges chain)) d₃ r₃
-  unfolding flatMap
-  all-three {e} {f} {g} q v w x =
-      wrote-as (ap (λ l. h e ++ (h f ++ l)) (sym (append-nil (h g))) ∙ ap (λ c. flatMap h (chainEdges c)) (sym q)) (wrote-join v (wrote-join w x))
+    pub all-none : (d : List ℕ) (at : ℕ) → Wrote d at (flatMap h (edgesIn given 0)) d at
+    unfolding flatMap edgesIn range
+    all-none d at = wrote-none d at
 
-  -- ---- the least of all
+    pub all-more : (x : ℕ) (e : SolutionEdge) → e ≡ recordEdge given x → {d : List ℕ} {at : ℕ} {d₁ : List ℕ} {r₁ : ℕ} {d₂ : List ℕ} {r₂ : ℕ}
+        → Wrote d at (flatMap h (edgesIn given x)) d₁ r₁ → Wrote d₁ r₁ (h (edgeBy e)) d₂ r₂ → Wrote d at (flatMap h (edgesIn given (x + 1))) d₂ r₂
+    all-more x e q v w = wrote-as (flat-more x e q) (wrote-join v w)
 
-  pub least-none : OneOf (0 ∷ 1 ∷ []) (tagOf the-type chain) → (x : ℕ) → x ≡ least x (flatMap h (chainEdges chain))
-  unfolding flatMap least
-  least-none q x = ap (λ c. least x (flatMap h c)) (sym (no-edges chain q))
+    pub all-done : (x n : ℕ) → x ≤ n → n ≤ x → {d : List ℕ} {at : ℕ} {d₁ : List ℕ} {r₁ : ℕ}
+        → Wrote d at (flatMap h (edgesIn given x)) d₁ r₁ → Wrote d at (flatMap h (edgesIn given n)) d₁ r₁
+    all-done x n p q w = wrote-as (ap (λ k. flatMap h (edgesIn given k)) (le-antisymm p q)) w
 
-  pub least-one-edge : {e : Edge} → chain ≡ One e → (x y : ℕ) → y ≡ least x (h e) → y ≡ least x (flatMap h (chainEdges chain))
-  unfolding flatMap
-  least-one-edge {e} q x y p = p ∙ ap (least x) (sym (append-nil (h e))) ∙ ap (λ c. least x (flatMap h (chainEdges c))) (sym q)
+    -- ---- the least of all
 
-  pub least-two-edges : {e f : Edge} → chain ≡ Two e f → (x y z : ℕ) → y ≡ least x (h e) → z ≡ least y (h f) → z ≡ least x (flatMap h (chainEdges chain))
-  unfolding flatMap
-  least-two-edges {e} {f} q x y z p r =
-      r ∙ ap (λ n. least n (h f)) p ∙ ap (least (least x (h e))) (sym (append-nil (h f)))
-      ∙ sym (least-append x (h e) (h f ++ [])) ∙ ap (λ c. least x (flatMap h (chainEdges c))) (sym q)
+    pub least-none : (w : ℕ) → w ≡ least w (flatMap h (edgesIn given 0))
+    unfolding flatMap edgesIn range least
+    least-none w = refl
 
-  pub least-three-edges : {e f g : Edge} → chain ≡ Three e f g → (x y z w : ℕ) → y ≡ least x (h e) → z ≡ least y (h f) → w ≡ least z (h g)
-      → w ≡ least x (flatMap h (chainEdges chain))
-  unfolding flatMap
-  least-three-edges {e} {f} {g} q x y z w p r s =
-      s ∙ ap (λ n. least n (h g)) (r ∙ ap (λ n. least n (h f)) p) ∙ ap (least (least (least x (h e)) (h f))) (sym (append-nil (h g)))
-      ∙ sym (least-append (least x (h e)) (h f) (h g ++ [])) ∙ sym (least-append x (h e) (h f ++ (h g ++ [])))
-      ∙ ap (λ c. least x (flatMap h (chainEdges c))) (sym q)
+    pub least-more : (w x y z : ℕ) (e : SolutionEdge) → e ≡ recordEdge given x → y ≡ least w (flatMap h (edgesIn given x)) → z ≡ least y (h (edgeBy e))
+        → z ≡ least w (flatMap h (edgesIn given (x + 1)))
+    least-more w x y z e q p r =
+        r ∙ ap (λ n. least n (h (edgeBy e))) p ∙ sym (least-append w (flatMap h (edgesIn given x)) (h (edgeBy e))) ∙ ap (least w) (flat-more x e q)
 
-module _ (h : Edge → ℕ) (chain : Chain) where
-  pub soonest-none : OneOf (0 ∷ 1 ∷ []) (tagOf the-type chain) → (x : ℕ) → x ≡ least x (map h (chainEdges chain))
-  unfolding least
-  soonest-none q x = ap (λ c. least x (map h c)) (sym (no-edges chain q))
+    pub least-done : (w x y n : ℕ) → x ≤ n → n ≤ x → y ≡ least w (flatMap h (edgesIn given x)) → y ≡ least w (flatMap h (edgesIn given n))
+    least-done w x y n p q r = r ∙ ap (λ k. least w (flatMap h (edgesIn given k))) (le-antisymm p q)
 
-  pub soonest-one : {e : Edge} → chain ≡ One e → (x y : ℕ) → y ≡ min x (h e) → y ≡ least x (map h (chainEdges chain))
-  unfolding least
-  soonest-one q x y p = p ∙ ap (λ c. least x (map h (chainEdges c))) (sym q)
+  module _ (h : Edge → ℕ) where
+    map-more : (x : ℕ) (e : SolutionEdge) → e ≡ recordEdge given x → map h (edgesIn given x) ++ (h (edgeBy e) ∷ []) ≡ map h (edgesIn given (x + 1))
+    map-more x e q =
+        ap (λ s. map h (edgesIn given x) ++ (h (edgeBy s) ∷ [])) q
+        ∙ sym (map-append h (edgesIn given x) (edgeBy (recordEdge given x) ∷ []))
+        ∙ ap (map h) (sym (edges-more x))
 
-  pub soonest-two : {e f : Edge} → chain ≡ Two e f → (x y z : ℕ) → y ≡ min x (h e) → z ≡ min y (h f) → z ≡ least x (map h (chainEdges chain))
-  unfolding least
-  soonest-two {e} {f} q x y z p r = r ∙ ap (λ n. min n (h f)) p ∙ ap (λ c. least x (map h (chainEdges c))) (sym q)
+    pub soonest-none : (w : ℕ) → w ≡ least w (map h (edgesIn given 0))
+    unfolding edgesIn range least
+    soonest-none w = refl
 
-  pub soonest-three : {e f g : Edge} → chain ≡ Three e f g → (x y z w : ℕ) → y ≡ min x (h e) → z ≡ min y (h f) → w ≡ min z (h g) → w ≡ least x (map h (chainEdges chain))
-  unfolding least
-  soonest-three {e} {f} {g} q x y z w p r s =
-      s ∙ ap (λ n. min n (h g)) (r ∙ ap (λ n. min n (h f)) p) ∙ ap (λ c. least x (map h (chainEdges c))) (sym q)
+    pub soonest-more : (w x y z : ℕ) (e : SolutionEdge) → e ≡ recordEdge given x → y ≡ least w (map h (edgesIn given x)) → z ≡ min y (h (edgeBy e))
+        → z ≡ least w (map h (edgesIn given (x + 1)))
+    soonest-more w x y z e q p r =
+        r ∙ ap (λ n. min n (h (edgeBy e))) p ∙ sym (least-one (least w (map h (edgesIn given x))) (h (edgeBy e)))
+        ∙ sym (least-append w (map h (edgesIn given x)) (h (edgeBy e) ∷ [])) ∙ ap (least w) (map-more x e q)
+
+    pub soonest-done : (w x y n : ℕ) → x ≤ n → n ≤ x → y ≡ least w (map h (edgesIn given x)) → y ≡ least w (map h (edgesIn given n))
+    soonest-done w x y n p q r = r ∙ ap (λ k. least w (map h (edgesIn given k))) (le-antisymm p q)

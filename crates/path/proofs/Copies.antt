@@ -1,20 +1,24 @@
 -- Bytes copied from the book into a path.
 -- Assumes nothing.
-use Prim.Native.Nat.{ℕ, suc, _+_, _≤_, _<_, _^_}
-use native.Mathlib.Nat.{add-assoc}
+use Prim.Native.Nat.{ℕ, suc, _+_, _≤_, _<_}
+use native.Mathlib.Nat.{add-assoc, le-antisymm}
 use native.Mathlib.Numerals.{add-one}
 use native.Mathlib.Omega.{arith}
 use mathlib.Core.Path.{_≡_, refl, sym, ap, ap₂, _∙_}
-use mathlib.Core.List.{List, [], _∷_, _++_}
-use lib.ListN.{length, getD, take, drop}
-use lib.Seq.{drop-cons, drop-drop, take-add}
-use Rattle.spec.specs.Limits.{entrySize, peerSize}
-use Rattle.spec.specs.Octets.{Bytes, be16, be32, octets2, octets4}
+use mathlib.Core.List.{List, [], _∷_, _++_, append-nil}
+use lib.ListN.{length, getD, take, drop, set, length-append, length-drop}
+use lib.Seq.{drop-cons, drop-drop, drop-length, take-add, take-all, length-take-le}
+use Rattle.spec.specs.Limits.{entrySize, peerSize, hopSize}
+use Rattle.spec.specs.Octets.{Bytes, be16, octets2}
 use Rattle.spec.specs.Book.{macAt, asEntryAt, peerEntryAt}
 use Rattle.spec.specs.Records.{hopOctets}
-use Rattle.spec.proofs.BookLaws.{be16-lt}
 use Rattle.output.specs.Write.{written}
-use Rattle.output.proofs.Writing.{written-pair, octets2-length}
+use Rattle.output.proofs.Writing.{copied, written-one, written-next, written-pair}
+
+-- a loop that copies, at its end
+pub copied-done : (d : List ℕ) (at : ℕ) (s : List ℕ) (from j n : ℕ) → j ≤ n → n ≤ j → copied d at s from j ≡ written d at (take n (drop from s))
+unfolding copied
+copied-done d at s from j n p q = ap (λ k. written d at (take k (drop from s))) (le-antisymm p q)
 
 module _ (b : List ℕ) where
   next : (n i : ℕ) → i < length b → take (suc n) (drop i b) ≡ getD b i 0 ∷ take n (drop (i + 1) b)
@@ -54,34 +58,54 @@ module _ (b : List ℕ) (bytes : Bytes b) where
       ∙ ap₂ (λ x y. x ++ y) (four (q + 12 + 1) (omega arith)) (six b (q + 12 + 1 + 4) (omega arith))
       ∙ simp add-assoc)
 
-  four-back : (i : ℕ) → octets4 (be32 b i) ≡ octets2 (be16 b i) ++ octets2 (be16 b (i + 2))
-  unfolding octets4 be32
-  four-back i = ap₂ (λ x y. octets2 x ++ octets2 y) (omega (arith, be16-lt b bytes i, be16-lt b bytes (i + 2))) (omega (arith, be16-lt b bytes i, be16-lt b bytes (i + 2)))
+  -- an entry's hop, put together of three pieces
+  own-pieces : (at : ℕ) → at + entrySize ≤ length b
+      → ((getD b (at + 18) 0 ∷ []) ++ take 4 (drop (at + 14) b)) ++ take 6 (drop (at + 19) b) ≡ hopOctets (asEntryAt b at .hop)
+  unfolding hopOctets asEntryAt octets2
+  own-pieces at h =
+      ap₂ (λ x y. ((getD b (at + 18) 0 ∷ []) ++ x) ++ y) (four (at + 14) (omega arith)) (six b (at + 19) (omega arith))
+      ∙ simp add-assoc
 
-  -- an entry's in four
-  pub own-put : (d : List ℕ) (to at : ℕ)
-      → written (written (written (written d to (getD b (at + 18) 0 ∷ [])) (to + 1) (octets4 (be32 b (at + 14)))) (to + 5) (octets4 (be32 b (at + 19)))) (to + 9) (octets2 (be16 b (at + 23)))
-      ≡ written d to (hopOctets (asEntryAt b at .hop))
-  own-put d to at =
-      ap (λ l. written (written l (to + 5) mac4) (to + 9) mac2) (written-pair d to 1 units ids refl)
-      ∙ ap (λ l. written l (to + 9) mac2) (written-pair d to 5 (units ++ ids) mac4 (unfold octets4 octets2 in refl))
-      ∙ written-pair d to 9 ((units ++ ids) ++ mac4) mac2 (unfold octets4 octets2 in refl)
-      ∙ ap (written d to) (ap₂ (λ x y. ((units ++ x) ++ y) ++ mac2) (four-back (at + 14)) (four-back (at + 19)) ∙ octets)
-    where
-      units : List ℕ
-      units = getD b (at + 18) 0 ∷ []
+-- ---- by way of a local hop
 
-      ids : List ℕ
-      ids = octets4 (be32 b (at + 14))
+-- a write over all there is
+over : (z xs : List ℕ) → length xs ≡ length z → written z 0 xs ≡ xs
+over z xs l = written-next [] z 0 xs refl (omega arith) ∙ ap (λ n. xs ++ drop n z) l ∙ ap (λ t. xs ++ t) (drop-length z) ∙ append-nil xs
 
-      mac4 : List ℕ
-      mac4 = octets4 (be32 b (at + 19))
+-- the local hop copied
+passed-on : (z xs r d : List ℕ) (to : ℕ) (d′ : List ℕ) → length z ≡ hopSize → length xs ≡ hopSize → r ≡ written z 0 xs → d′ ≡ written d to (take hopSize (drop 0 r))
+    → d′ ≡ written d to xs
+passed-on z xs r d to d′ lz lx q p =
+    p ∙ ap (λ t. written d to (take hopSize (drop 0 t))) (q ∙ over z xs (omega arith)) ∙ ap (written d to) (take-all hopSize xs (omega arith))
 
-      mac2 : List ℕ
-      mac2 = octets2 (be16 b (at + 23))
+pub peer-put : (z b : List ℕ) (from : ℕ) (r d : List ℕ) (to : ℕ) (d′ : List ℕ) → length z ≡ hopSize → from + hopSize ≤ length b
+    → r ≡ written z 0 (take hopSize (drop from b)) → d′ ≡ written d to (take hopSize (drop 0 r)) → d′ ≡ written d to (take hopSize (drop from b))
+peer-put z b from r d to d′ lz h q p = passed-on z (take hopSize (drop from b)) r d to d′ lz (length-take-le hopSize (drop from b) (simp length-drop (omega arith))) q p
 
-      octets : ((units ++ (octets2 (be16 b (at + 14)) ++ octets2 (be16 b (at + 14 + 2)))) ++ (octets2 (be16 b (at + 19)) ++ octets2 (be16 b (at + 19 + 2)))) ++ mac2 ≡ hopOctets (asEntryAt b at .hop)
-      octets =
-          ap₂ (λ x y. ((units ++ (octets2 (be16 b (at + 14)) ++ octets2 (be16 b (at + 14 + 2)))) ++ (x ++ y)) ++ mac2) (two-back (at + 19)) (two-back (at + 19 + 2))
-          ∙ ap (λ x. ((units ++ (octets2 (be16 b (at + 14)) ++ octets2 (be16 b (at + 14 + 2)))) ++ ((getD b (at + 19) 0 ∷ getD b (at + 19 + 1) 0 ∷ []) ++ (getD b (at + 19 + 2) 0 ∷ getD b (at + 19 + 2 + 1) 0 ∷ []))) ++ x) (two-back (at + 23))
-          ∙ unfold hopOctets asEntryAt octets2 macAt in (simp add-assoc)
+pub own-put : (b : List ℕ) → Bytes b → (at : ℕ) → at + entrySize ≤ length b → (z r₁ r₂ d : List ℕ) (to : ℕ) (d′ : List ℕ) → length z ≡ hopSize
+    → r₁ ≡ written (set z 0 (getD b (at + 18) 0)) 1 (take 4 (drop (at + 14) b)) → r₂ ≡ written r₁ 5 (take 6 (drop (at + 19) b)) → d′ ≡ written d to (take hopSize (drop 0 r₂))
+    → d′ ≡ written d to (hopOctets (asEntryAt b at .hop))
+own-put b bytes at h z r₁ r₂ d to d′ lz q₁ q₂ p =
+    passed-on z ((units ++ ids) ++ mac) r₂ d to d′ lz (omega (arith, length-append (units ++ ids) mac, five, mac-length)) written-all p
+    ∙ ap (written d to) (own-pieces b bytes at h)
+  where
+    units : List ℕ
+    units = getD b (at + 18) 0 ∷ []
+
+    ids : List ℕ
+    ids = take 4 (drop (at + 14) b)
+
+    mac : List ℕ
+    mac = take 6 (drop (at + 19) b)
+
+    mac-length : length mac ≡ 6
+    mac-length = length-take-le 6 (drop (at + 19) b) (simp length-drop (omega arith))
+
+    five : length (units ++ ids) ≡ 5
+    five = omega (arith, length-append units ids, length-take-le 4 (drop (at + 14) b) (simp length-drop (omega arith)))
+
+    written-all : r₂ ≡ written z 0 ((units ++ ids) ++ mac)
+    written-all =
+        q₂
+        ∙ ap (λ l. written l 5 mac) (q₁ ∙ ap (λ l. written l 1 ids) (sym (written-one z 0 (getD b (at + 18) 0))) ∙ written-pair z 0 1 units ids refl)
+        ∙ written-pair z 0 5 (units ++ ids) mac five

@@ -1,11 +1,11 @@
 -- The interfaces and MTUs of one entry.
 -- Assumes nothing.
-use Prim.Native.Nat.{ℕ, _+_, _-_, _%_, _^_, _<_, min}
+use Prim.Native.Nat.{ℕ, _+_, _-_, _%_, _^_, min}
 use native.Mathlib.Omega.{arith}
 use mathlib.Core.Path.{_≡_, refl, sym, ap, ap₂, _∙_}
 use mathlib.Core.Bool.{Bool, true, false, _&&_, _||_, not}
 use mathlib.Core.List.{List, [], _∷_, _++_, flatMap, reverse, reverse-append, append-nil}
-use lib.ListN.{length, getD, take, drop}
+use lib.ListN.{take, drop}
 use lib.Dec.{eqb, ltb}
 use borrow.Author.Tests.{eqb-true, eqb-false, lt-ltb, eq-eqb, ne-eqb}
 use Rattle.spec.specs.declared.IsdAsn.{IsdAsn}
@@ -22,9 +22,8 @@ use Rattle.spec.proofs.ByteLaws.{hop-length}
 use Rattle.spec.proofs.BookLaws.{hop-good}
 use Rattle.output.specs.Write.{written}
 use Rattle.output.proofs.Writing.{octets2-length, octets8-length}
-use Rattle.path.specs.declared.Part.the-variants.{Hops, Ases, Ids}
 use Rattle.path.specs.Places.{isLeft, linkOffset, Here, Wrote}
-use Rattle.path.specs.Parts.{linkMtus, ingressShown, shownAs, asIf, idIf, interfacesHere, entryBytes}
+use Rattle.path.specs.Parts.{Hops, Ases, Ids, linkMtus, ingressShown, shownAs, asIf, idIf, interfacesHere, entryBytes}
 use Rattle.path.proofs.Copies.{link-copied}
 use Rattle.path.proofs.Standing.{link-hop, own-hop}
 use Rattle.path.proofs.Writes.{wrote-none, wrote-one, wrote-join, wrote-as}

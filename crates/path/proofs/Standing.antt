@@ -2,7 +2,7 @@
 -- Assumes nothing.
 use Prim.Native.Nat.{ℕ, _+_, _-_, _*_, _^_, _≤_, _<_}
 use native.Mathlib.Omega.{arith}
-use mathlib.Core.Path.{_≡_, refl, sym, ap, ap₂, _∙_, subst}
+use mathlib.Core.Path.{_≡_, refl, sym, ap, _∙_, subst}
 use mathlib.Core.Bool.{Bool, true, false, _&&_}
 use mathlib.Core.List.{List}
 use lib.ListN.{length, getD}
@@ -12,19 +12,20 @@ use Rattle.spec.specs.declared.HopField.{HopField}
 use Rattle.spec.specs.declared.AsEntry.{AsEntry}
 use Rattle.spec.specs.declared.PeerEntry.{PeerEntry}
 use Rattle.spec.specs.declared.Edge.{Edge}
-use Rattle.spec.specs.Limits.{entrySize, maxEntries, maxSegments}
+use Rattle.spec.specs.declared.Verdict.the-variants.{Accepted}
+use Rattle.spec.specs.Limits.{headSize, maxEntries, maxSegments}
 use Rattle.spec.specs.Basics.{if_then_else_}
 use Rattle.spec.specs.Octets.{be16, be32}
-use Rattle.spec.specs.Book.{segmentCount, entryCountAt, bodyOffset, entryOffset, peerCount, isdAsnAt, asEntryAt, peerEntryAt, segmentAt}
+use Rattle.spec.specs.Book.{verdict, entryCountAt, bodyOffset, entryOffset, peerCount, isdAsnAt, asEntryAt, peerEntryAt, segmentAt}
 use Rattle.spec.specs.Edges.{entryOf, asOf, peerOf}
 use Rattle.spec.specs.Assembly.{isPeerHop, isPeerEdge, atShortcut, hopOf, segmentOf}
-use Rattle.spec.specs.Router.{hopEntry}
 use Rattle.spec.proofs.Membership.{not-both}
 use Rattle.spec.proofs.BookLaws.{AcceptedBook, accepted, entry-count, segment-length}
 use Rattle.spec.proofs.BodyLaws.{entry-place, body-end, peer-place}
-use Rattle.book.specs.Offsets.{offsetTable}
 use Rattle.segment.proofs.Fitting.{own-read, peers-read, peer-read, offset-small}
 use Rattle.book.proofs.Tables.{table-at}
+use Rattle.graph.specs.Leaving.{entryCount}
+use Rattle.graph.proofs.LookupReads.{count-place, count-low}
 use Rattle.path.specs.Usable.{Ready, Usable}
 use Rattle.path.specs.Places.{isLeft, linkOffset, Link, Here, entryFrom}
 
@@ -113,14 +114,21 @@ stands b offsets r e u m h =
     ap (λ l. getD l (maxEntries * e .position + m) 0) (r .table) ∙ table-at b a (e .position) m (u .position) i in
     (subst (Here b e m) (sym t) (here b a e u m h), omega (arith, offset-small b a (e .position) (u .position) m i))
 
-pub count-read : (b : List ℕ) (e : Edge) {n : ℕ} → n ≡ entryCountAt b (e .position) → n ≡ length (segmentOf b e .entries)
-unfolding segmentOf
-count-read b e q = q ∙ sym (segment-length b (e .position))
+-- in an accepted book the count of entries is its low byte
+module _ (b : List ℕ) (ok : verdict b ≡ Accepted) (e : Edge) (u : Usable b e) where
+  pub count-within : 15 + headSize * e .position < length b
+  count-within = count-place b ok (e .position) (u .position)
+
+  pub count-byte : getD b (15 + headSize * e .position) 0 ≡ length (segmentOf b e .entries)
+  unfolding segmentOf entryCount
+  count-byte = count-low b ok (e .position) (u .position)
+
+  pub count-few : getD b (15 + headSize * e .position) 0 ≤ maxEntries
+  count-few = omega (arith, count-byte, count-most b (accepted b ok) e u)
 
 -- the entry of a hop
-pub entry-from : (b : List ℕ) (e : Edge) → Usable b e → (n j : ℕ) → n ≡ length (segmentOf b e .entries) → entryFrom e n j ≡ hopEntry (segmentOf b e) e j
-unfolding entryFrom hopEntry
-entry-from b e u n j q = ap₂ (λ (t : Bool) k. if t then e .shortcut + j else k - 1 - j) (u .direction) q
+pub entry-from : (b : List ℕ) (e : Edge) (n j : ℕ) → n ≡ length (segmentOf b e .entries) → entryFrom e n j ≡ entryFrom e (length (segmentOf b e .entries)) j
+entry-from b e n j q = ap (λ k. entryFrom e k j) q
 
 pub from-along : (e : Edge) (n j : ℕ) → e .construction ≡ true → e .shortcut + j ≡ entryFrom e n j
 unfolding entryFrom

@@ -1,6 +1,6 @@
 -- The walks over an edge's hops: their turns, and what they end in.
 -- Assumes nothing.
-use Prim.Native.Nat.{ℕ, zero, suc, _+_, _-_, _*_, _≤_, _<_, min}
+use Prim.Native.Nat.{ℕ, _+_, _-_, _≤_, _<_, min}
 use native.Mathlib.Nat.{zero-add, add-zero}
 use native.Mathlib.Numerals.{add-one}
 use native.Mathlib.Omega.{arith}
@@ -8,42 +8,37 @@ use mathlib.Core.Path.{_≡_, refl, sym, ap, ap₂, _∙_}
 use mathlib.Core.Bool.{Bool, true, false, _&&_}
 use mathlib.Core.List.{List, [], _∷_, _++_, map, flatMap, reverse, reverse-cons, reverse-append, reverse-reverse, append-nil}
 use lib.ListN.{length}
-use lib.Dec.{eqb, ltb}
-use borrow.Author.Tests.{eqb-true, eq-eqb, ltb-true, lt-ltb}
+use lib.Dec.{eqb}
+use borrow.Author.Tests.{eqb-true, eq-eqb}
 use Rattle.spec.specs.declared.HopField.{HopField}
-use Rattle.spec.specs.declared.InfoField.{InfoField}
 use Rattle.spec.specs.declared.AsEntry.{AsEntry}
 use Rattle.spec.specs.declared.Edge.{Edge}
 use Rattle.spec.specs.Limits.{infoSize, maxTime}
 use Rattle.spec.specs.Basics.{if_then_else_, range}
 use Rattle.spec.specs.Octets.{octets2, octets4}
 use Rattle.spec.specs.Book.{Segment, timestampAt, idAt, macAt, asEntryAt, segmentAt}
-use Rattle.spec.specs.Edges.{entryOf}
 use Rattle.spec.specs.Assembly.{least, unitsOf, life, mtusAt, hopOf, hopCount, usedEntries, interfacesAt, inDirection, hopsOf, interfacesOf, mtusOf, infoOf, expiryOf, segmentOf, hopsOn, interfacesOn, mtusOn, infoOn, expiryOn, isPeerHop, isPeerEdge, atShortcut, foldStep, foldMacs, idBelow, stopAt}
-use Rattle.spec.specs.Records.{bit, hopOctets, infoOctets, interfaceAsOctets, interfaceIdOctets}
-use Rattle.spec.specs.Router.{isAlong, hopEntry, hopEntries}
+use Rattle.spec.specs.Records.{hopOctets, infoOctets, interfaceAsOctets, interfaceIdOctets}
 use Rattle.spec.proofs.Membership.{not-both}
-use Rattle.spec.proofs.Lists.{map-append, range-suc, range-up, range-down, flatMap-append}
+use Rattle.spec.proofs.Lists.{map-append, map-reverse, range-suc, range-up, range-down, flatMap-append}
 use Rattle.spec.proofs.ByteLaws.{info-length}
-use Rattle.spec.proofs.RouterLaws.{hops-entries, idBelow-next}
+use Rattle.spec.proofs.RouterLaws.{idBelow-next}
 use Rattle.output.specs.Write.{written}
 use Rattle.output.proofs.Writing.{written-pair}
-use Rattle.path.specs.declared.Part.{Part}
-use Rattle.path.specs.declared.Part.the-variants.{Hops, Ases, Ids}
 use Rattle.path.specs.Usable.{Usable}
 use Rattle.path.specs.Places.{Here, Wrote, entryFrom, passed, fromLeaf}
-use Rattle.path.specs.Parts.{infoBytes, interfacesHere, entryBytes, edgeBytes, walked, unitsPassed, mtusPassed, stopFrom, flagsOf}
+use Rattle.path.specs.Parts.{Part, Hops, Ases, Ids, infoBytes, interfacesHere, entryBytes, edgeBytes, walked, unitsPassed, mtusPassed, stopFrom, flagsOf}
 use Rattle.path.proofs.Writes.{wrote-none, wrote-one, wrote-join, wrote-as}
 use Rattle.path.proofs.Showing.{least-append, least-one}
 
 -- ---- lists
 
-range-more : {A : Type 0} (f : ℕ → A) (j : ℕ) → map f (range 0 (j + 1)) ≡ map f (range 0 j) ++ (f j ∷ [])
+pub range-more : {A : Type 0} (f : ℕ → A) (j : ℕ) → map f (range 0 (j + 1)) ≡ map f (range 0 j) ++ (f j ∷ [])
 range-more f j =
     ap (λ n. map f (range 0 n)) (add-one j) ∙ ap (map f) (range-suc 0 j) ∙ map-append f (range 0 j) ((0 + j) ∷ [])
     ∙ ap (λ i. map f (range 0 j) ++ (f i ∷ [])) (zero-add j)
 
-flat-one : {A B : Type 0} (f : A → List B) (x : A) → flatMap f (x ∷ []) ≡ f x
+pub flat-one : {A B : Type 0} (f : A → List B) (x : A) → flatMap f (x ∷ []) ≡ f x
 unfolding flatMap
 flat-one f x = append-nil (f x)
 
@@ -71,6 +66,11 @@ unfolding inDirection
 flat-direction true f xs = flat-reverse f xs
 flat-direction false f xs = refl
 
+map-direction : {A B : Type 0} (t : Bool) (f : A → B) (xs : List A) → inDirection t (map f xs) ≡ map f (inDirection t xs)
+unfolding inDirection
+map-direction true f xs = sym (map-reverse f xs)
+map-direction false f xs = refl
+
 -- ---- the entries of the hops
 
 module _ (b : List ℕ) (e : Edge) where
@@ -80,13 +80,9 @@ module _ (b : List ℕ) (e : Edge) where
   abbrev n : ℕ
   n = length (segmentOf b e .entries)
 
-  passed-more : (j : ℕ) → passed b e (j + 1) ≡ passed b e j ++ (hopEntry (segmentOf b e) e j ∷ [])
+  passed-more : (j : ℕ) → passed b e (j + 1) ≡ passed b e j ++ (entryFrom e n j ∷ [])
   unfolding passed
-  passed-more j = range-more (hopEntry (segmentOf b e) e) j
-
-  passed-all : passed b e (hopCount seg e) ≡ hopEntries seg e
-  unfolding passed hopEntries
-  passed-all = refl
+  passed-more j = range-more (entryFrom e (length (segmentOf b e .entries))) j
 
   leaf-more : (j : ℕ) → fromLeaf b e (j + 1) ≡ fromLeaf b e j ++ ((n - 1 - j) ∷ [])
   unfolding fromLeaf
@@ -97,9 +93,9 @@ module _ (b : List ℕ) (e : Edge) where
     unfolding fromLeaf usedEntries hopCount
     leaf-all = range-down (e .shortcut) (n - e .shortcut) n (omega (arith, u .shortcut))
 
-    used-entries : hopEntries seg e ≡ inDirection (e .construction) (usedEntries seg e)
-    unfolding hopEntries hopEntry
-    used-entries = go (isAlong seg e) ∙ ap (λ t. inDirection t (usedEntries seg e)) (sym (u .direction))
+    used-entries : passed b e (hopCount seg e) ≡ inDirection (e .construction) (usedEntries seg e)
+    unfolding passed entryFrom
+    used-entries = go (e .construction)
       where
         up : map (λ j. e .shortcut + j) (range 0 (hopCount seg e)) ≡ reverse (usedEntries seg e)
         up =
@@ -114,11 +110,11 @@ module _ (b : List ℕ) (e : Edge) where
         go true = unfold inDirection in up
         go false = unfold inDirection in down
 
-    hops-on : hopsOn b e ≡ map (hopOf seg e) (hopEntries seg e)
-    unfolding hopsOn
-    hops-on = hops-entries seg e (u .direction)
+    hops-on : hopsOn b e ≡ map (hopOf seg e) (passed b e (hopCount seg e))
+    unfolding hopsOn hopsOf
+    hops-on = map-direction (e .construction) (hopOf seg e) (usedEntries seg e) ∙ ap (map (hopOf seg e)) (sym used-entries)
 
-    interfaces-on : interfacesOn b e ≡ flatMap (interfacesHere b e) (hopEntries seg e)
+    interfaces-on : interfacesOn b e ≡ flatMap (interfacesHere b e) (passed b e (hopCount seg e))
     unfolding interfacesOn interfacesOf interfacesHere
     interfaces-on =
         flat-direction (e .construction) (interfacesAt seg e) (usedEntries seg e)
@@ -127,15 +123,13 @@ module _ (b : List ℕ) (e : Edge) where
     walk-end : (part : Part) → walked b e part (hopCount seg e) ≡ edgeBytes b part e
     walk-end Hops =
         unfold walked edgeBytes entryBytes in
-        (ap (flatMap (λ m. hopOctets (hopOf seg e m))) passed-all ∙ sym (flat-map (hopOf seg e) hopOctets (hopEntries seg e)) ∙ ap (flatMap hopOctets) (sym hops-on))
+        (sym (flat-map (hopOf seg e) hopOctets (passed b e (hopCount seg e))) ∙ ap (flatMap hopOctets) (sym hops-on))
     walk-end Ases =
         unfold walked edgeBytes entryBytes in
-        (ap (flatMap (λ m. flatMap interfaceAsOctets (interfacesHere b e m))) passed-all
-        ∙ sym (flat-flat (interfacesHere b e) interfaceAsOctets (hopEntries seg e)) ∙ ap (flatMap interfaceAsOctets) (sym interfaces-on))
+        (sym (flat-flat (interfacesHere b e) interfaceAsOctets (passed b e (hopCount seg e))) ∙ ap (flatMap interfaceAsOctets) (sym interfaces-on))
     walk-end Ids =
         unfold walked edgeBytes entryBytes in
-        (ap (flatMap (λ m. flatMap interfaceIdOctets (interfacesHere b e m))) passed-all
-        ∙ sym (flat-flat (interfacesHere b e) interfaceIdOctets (hopEntries seg e)) ∙ ap (flatMap interfaceIdOctets) (sym interfaces-on))
+        (sym (flat-flat (interfacesHere b e) interfaceIdOctets (passed b e (hopCount seg e))) ∙ ap (flatMap interfaceIdOctets) (sym interfaces-on))
 
 -- ---- a part
 
@@ -148,7 +142,7 @@ module _ (b : List ℕ) (e : Edge) (part : Part) where
   unfolding walked passed range flatMap
   walk-none d at = wrote-none d at
 
-  pub walk-more : (j m : ℕ) {d : List ℕ} {at : ℕ} {d′ : List ℕ} {to : ℕ} {d″ : List ℕ} {r : ℕ} → Wrote d at (walked b e part j) d′ to → m ≡ hopEntry (segmentOf b e) e j
+  pub walk-more : (j m : ℕ) {d : List ℕ} {at : ℕ} {d′ : List ℕ} {to : ℕ} {d″ : List ℕ} {r : ℕ} → Wrote d at (walked b e part j) d′ to → m ≡ entryFrom e (length (segmentOf b e .entries)) j
       → Wrote d′ to (entryBytes b e part m) d″ r → Wrote d at (walked b e part (j + 1)) d″ r
   unfolding walked
   walk-more j m v q w =
@@ -169,22 +163,22 @@ module _ (b : List ℕ) (e : Edge) where
   unfolding unitsPassed passed range least
   units-none = refl
 
-  pub units-more : (x j m : ℕ) → x ≡ unitsPassed b e j → m ≡ hopEntry (segmentOf b e) e j → min x (hopOf (segmentOf b e) e m .units) ≡ unitsPassed b e (j + 1)
+  pub units-more : (x j m : ℕ) → x ≡ unitsPassed b e j → m ≡ entryFrom e (length (segmentOf b e .entries)) j → min x (hopOf (segmentOf b e) e m .units) ≡ unitsPassed b e (j + 1)
   unfolding unitsPassed unitsOf
   units-more x j m p q =
       let f : ℕ → HopField = hopOf (segmentOf b e) e in
       ap₂ (λ y i. min y (f i .units)) p q
-      ∙ sym (least-one (least 255 (map unitsOf (map f (passed b e j)))) (f (hopEntry (segmentOf b e) e j) .units))
-      ∙ sym (least-append 255 (map unitsOf (map f (passed b e j))) (f (hopEntry (segmentOf b e) e j) .units ∷ []))
-      ∙ ap (least 255) (sym (map-append unitsOf (map f (passed b e j)) (f (hopEntry (segmentOf b e) e j) ∷ [])))
-      ∙ ap (λ l. least 255 (map unitsOf l)) (sym (map-append f (passed b e j) (hopEntry (segmentOf b e) e j ∷ [])))
+      ∙ sym (least-one (least 255 (map unitsOf (map f (passed b e j)))) (f (entryFrom e (length (segmentOf b e .entries)) j) .units))
+      ∙ sym (least-append 255 (map unitsOf (map f (passed b e j))) (f (entryFrom e (length (segmentOf b e .entries)) j) .units ∷ []))
+      ∙ ap (least 255) (sym (map-append unitsOf (map f (passed b e j)) (f (entryFrom e (length (segmentOf b e .entries)) j) ∷ [])))
+      ∙ ap (λ l. least 255 (map unitsOf l)) (sym (map-append f (passed b e j) (entryFrom e (length (segmentOf b e .entries)) j ∷ [])))
       ∙ ap (λ l. least 255 (map unitsOf (map f l))) (sym (passed-more b e j))
 
   pub units-all : Usable b e → (x j : ℕ) → x ≡ unitsPassed b e j → j ≡ hopCount (segmentOf b e) e → x ≡ least 255 (map unitsOf (hopsOn b e))
   unfolding unitsPassed
   units-all u x j p q =
       p ∙ ap (λ i. least 255 (map unitsOf (map (hopOf (segmentOf b e) e) (passed b e i)))) q
-      ∙ ap (λ l. least 255 (map unitsOf (map (hopOf (segmentOf b e) e) l))) (passed-all b e) ∙ ap (λ l. least 255 (map unitsOf l)) (sym (hops-on b e u))
+      ∙ ap (λ l. least 255 (map unitsOf l)) (sym (hops-on b e u))
 
   pub time-read : (t : ℕ) → t ≡ timestampAt b (e .position) → t ≡ segmentOf b e .timestamp
   unfolding segmentOf segmentAt

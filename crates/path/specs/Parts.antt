@@ -14,8 +14,12 @@ use Rattle.spec.specs.Edges.{entryOf, peerOf}
 use Rattle.path.specs.Places.{isLeft, passed, fromLeaf}
 use Rattle.spec.specs.Assembly.{least, unitsOf, mtusAt, isPeerEdge, isPeerHop, interfaceIf, interfacesAt, inDirection, hopOf, segmentOf, infoOn, hopsOn, interfacesOn}
 use Rattle.spec.specs.Records.{bit, infoOctets, hopOctets, asOctets, interfaceAsOctets, interfaceIdOctets}
-use Rattle.path.specs.declared.Part.{Part}
-use Rattle.path.specs.declared.Part.the-variants.{Hops, Ases, Ids}
+
+-- the parts of a path's record that go by entries
+pub data Part : Type 0 where
+  Hops : Part
+  Ases : Part
+  Ids : Part
 
 -- the MTU of the link over which entry m is entered, if it counts
 unfoldable pub linkMtus : Segment → Edge → ℕ → List ℕ

@@ -12,7 +12,6 @@ use Rattle.spec.specs.Basics.{if_then_else_, range}
 use Rattle.spec.specs.Book.{asEntryAt, peerEntryAt, peerOffset}
 use Rattle.spec.specs.Edges.{entryOf, peerOf}
 use Rattle.spec.specs.Assembly.{atShortcut, isPeerHop, segmentOf}
-use Rattle.spec.specs.Router.{hopEntry}
 use Rattle.output.specs.Write.{written}
 
 -- entry m is the shortcut, above the segment's first entry: there the path leaves the segment, or comes to it
@@ -41,7 +40,7 @@ entryFrom e n j = if e .construction then e .shortcut + j else n - 1 - j
 module _ (b : List ℕ) (e : Edge) where
   -- the entries of the first j hops
   unfoldable pub passed : ℕ → List ℕ
-  passed j = map (hopEntry (segmentOf b e) e) (range 0 j)
+  passed j = map (entryFrom e (length (segmentOf b e .entries))) (range 0 j)
 
   -- the first j entries from the leaf down
   unfoldable pub fromLeaf : ℕ → List ℕ

@@ -1,4 +1,4 @@
--- The edges of a chain, and the ASes of a path's interfaces as they stand in its record.
+-- The edges of a record, and the ASes of a path's interfaces as they stand in its record.
 -- Assumes nothing.
 use Prim.Native.Nat.{ℕ, _+_, _-_, _*_, _≤_, _<_}
 use mathlib.Core.Path.{_≡_}
@@ -7,19 +7,30 @@ use mathlib.Core.List.{List, [], _∷_, _++_, map, flatMap, List·Memᴰ as Mem}
 use lib.ListN.{length}
 use lib.Dec.{eqb, ltb}
 use Rattle.spec.specs.declared.Edge.{Edge}
-use Rattle.spec.specs.Limits.{pathHeadSize}
+use Rattle.spec.specs.Limits.{maxEdges, solutionSize, pathHeadSize}
 use Rattle.spec.specs.Basics.{any, filter, range}
 use Rattle.spec.specs.Octets.{be64}
-use Rattle.graph.specs.declared.Chain.{Chain}
-use Rattle.graph.specs.Recorded.{chainEdges}
-use Rattle.path.specs.declared.Part.the-variants.{Hops, Ases}
+use Rattle.spec.specs.Records.{recordEdge}
 use Rattle.path.specs.declared.record.Front.{Front}
-use Rattle.path.specs.Usable.{Usable}
+use Rattle.path.specs.Usable.{edgeBy, Usable}
 use Rattle.path.specs.Places.{Wrote}
-use Rattle.path.specs.Parts.{infoBytes, edgeBytes}
+use Rattle.path.specs.Parts.{Hops, Ases, infoBytes, edgeBytes}
 
-pub record UsableChain (b : List ℕ) (chain : Chain) : Type 0 where
-  pub edges : (e : Edge) → Mem e (chainEdges chain) → Usable b e
+-- edge k of a record, and its first edges
+unfoldable pub edgeIn : List ℕ → ℕ → Edge
+edgeIn given k = edgeBy (recordEdge given k)
+
+unfoldable pub edgesIn : List ℕ → ℕ → List Edge
+edgesIn given count = map (edgeIn given) (range 0 count)
+
+pub record UsableEdges (b : List ℕ) (c : List Edge) : Type 0 where
+  pub edges : (e : Edge) → Mem e c → Usable b e
+  pub few : length c ≤ maxEdges
+
+-- a record with its first `count` edges
+pub record UsableRecord (b given : List ℕ) (count : ℕ) : Type 0 where
+  pub edges : UsableEdges b (edgesIn given count)
+  pub room : solutionSize ≤ length given
 
 -- numbers of 8 bytes from an offset on
 unfoldable pub numberAt : List ℕ → ℕ → ℕ → ℕ

@@ -2,18 +2,18 @@
 ghost use mathlib.Core.Path.{_≡_};
 ghost use mathlib.Core.List.{[], _∷_, _++_, map};
 ghost use Prim.Native.Nat.{_+_, _*_, _^_, _≤_, _<_, min};
-ghost use Rattle.spec.specs.Limits.{maxEntries, infoSize};
+ghost use lib.ListN.{length};
+ghost use Rattle.spec.specs.Limits.{maxEntries, infoSize, hopSize};
 ghost use Rattle.spec.specs.Octets.{octets2, octets4};
 ghost use Rattle.spec.specs.Assembly.{least, unitsOf, hopsOn, mtusOn, expiryOn, idBelow, stopAt, segmentOf};
 ghost use Rattle.spec.specs.Records.{bit};
 ghost use Rattle.output.specs.Write.{written};
-ghost use Rattle.path.specs.Usable.{Ready, Usable};
+ghost use Rattle.path.specs.Usable.{Ready, edgeBy, Usable};
 ghost use Rattle.path.specs.Places.{Wrote};
-ghost use Rattle.path.specs.Parts.{infoBytes, edgeBytes, stopFrom, flagsOf};
-use crate::Part;
+ghost use Rattle.path.specs.Parts.{Hops, Ases, Ids, infoBytes, edgeBytes, stopFrom, flagsOf};
 use crate::entry;
 use crate::places;
-use spec::Edge;
+use spec::SolutionEdge;
 
 // The bytes of an info in a path.
 pub const INFO: usize = 8;
@@ -21,19 +21,19 @@ pub const INFO: usize = 8;
 // The last second that a path can say.
 pub const LAST: u32 = 4294967295;
 
-// Writes a part of the path.
-pub(crate) fn put_part(
+// ---- hops, ASes and ids
+
+pub(crate) fn put_hops(
     book: &[u8],
     table: &[u16; places::PLACES],
-    e: Edge,
-    part: Part,
+    e: SolutionEdge,
     out: &mut [u8],
     at: usize,
 ) -> usize
     requires { ⌜ Ready (now book) (now table) ⌝ }
-    requires { ⌜ Usable (now book) e ⌝ }
-    requires { ⌜ at < 2 ^ 32 ⌝ }
-    ensures { λ r. ⌜ Wrote (now (out .entry)) at (edgeBytes (now (book .entry)) part e) (now (out .exit)) r × (r ≤ at + 16 * maxEntries) ⌝ }
+    requires { ⌜ Usable (now book) (edgeBy e) ⌝ }
+    requires { ⌜ at + hopSize * maxEntries ≤ length (now out) ⌝ }
+    ensures { λ r. ⌜ Wrote (now (out .entry)) at (edgeBytes (now (book .entry)) Hops (edgeBy e)) (now (out .exit)) r × (r ≤ at + hopSize * maxEntries) ⌝ }
 {
     let n = places::entry_count(book, e);
     let hops = n - (e.shortcut as usize);
@@ -41,7 +41,55 @@ pub(crate) fn put_part(
     let mut j: usize = 0;
     while j < hops {
         let m = places::entry_of(e, n, j);
-        to = entry::put_entry(book, table, e, m, part, out, to);
+        to = entry::put_hop(book, e, m, places::offset(book, table, e, m), out, to);
+        j += 1;
+    }
+    to
+}
+
+pub(crate) fn put_ases(
+    book: &[u8],
+    table: &[u16; places::PLACES],
+    e: SolutionEdge,
+    out: &mut [u8],
+    at: usize,
+) -> usize
+    requires { ⌜ Ready (now book) (now table) ⌝ }
+    requires { ⌜ Usable (now book) (edgeBy e) ⌝ }
+    requires { ⌜ at + 16 * maxEntries ≤ length (now out) ⌝ }
+    ensures { λ r. ⌜ Wrote (now (out .entry)) at (edgeBytes (now (book .entry)) Ases (edgeBy e)) (now (out .exit)) r × (r ≤ at + 16 * maxEntries) ⌝ }
+{
+    let n = places::entry_count(book, e);
+    let hops = n - (e.shortcut as usize);
+    let mut to = at;
+    let mut j: usize = 0;
+    while j < hops {
+        let m = places::entry_of(e, n, j);
+        to = entry::put_ases(book, e, m, places::offset(book, table, e, m), out, to);
+        j += 1;
+    }
+    to
+}
+
+pub(crate) fn put_ids(
+    book: &[u8],
+    table: &[u16; places::PLACES],
+    e: SolutionEdge,
+    out: &mut [u8],
+    at: usize,
+) -> usize
+    requires { ⌜ Ready (now book) (now table) ⌝ }
+    requires { ⌜ Usable (now book) (edgeBy e) ⌝ }
+    requires { ⌜ at + 4 * maxEntries ≤ length (now out) ⌝ }
+    ensures { λ r. ⌜ Wrote (now (out .entry)) at (edgeBytes (now (book .entry)) Ids (edgeBy e)) (now (out .exit)) r × (r ≤ at + 4 * maxEntries) ⌝ }
+{
+    let n = places::entry_count(book, e);
+    let hops = n - (e.shortcut as usize);
+    let mut to = at;
+    let mut j: usize = 0;
+    while j < hops {
+        let m = places::entry_of(e, n, j);
+        to = entry::put_ids(book, e, m, places::offset(book, table, e, m), out, to);
         j += 1;
     }
     to
@@ -50,10 +98,10 @@ pub(crate) fn put_part(
 // ---- MTU
 
 // The least of x and the edge's MTUs.
-pub(crate) fn mtu(book: &[u8], table: &[u16; places::PLACES], e: Edge, x: u16) -> u16
+pub(crate) fn mtu(book: &[u8], table: &[u16; places::PLACES], e: SolutionEdge, x: u16) -> u16
     requires { ⌜ Ready (now book) (now table) ⌝ }
-    requires { ⌜ Usable (now book) e ⌝ }
-    ensures { λ r. ⌜ r ≡ least x (mtusOn (now (book .entry)) e) ⌝ }
+    requires { ⌜ Usable (now book) (edgeBy e) ⌝ }
+    ensures { λ r. ⌜ r ≡ least x (mtusOn (now (book .entry)) (edgeBy e)) ⌝ }
 {
     let n = places::entry_count(book, e);
     let hops = n - (e.shortcut as usize);
@@ -80,10 +128,10 @@ fn less(x: u8, y: u8) -> u8
 }
 
 // The least units among the hops.
-fn units(book: &[u8], table: &[u16; places::PLACES], e: Edge) -> u8
+fn units(book: &[u8], table: &[u16; places::PLACES], e: SolutionEdge) -> u8
     requires { ⌜ Ready (now book) (now table) ⌝ }
-    requires { ⌜ Usable (now book) e ⌝ }
-    ensures { λ r. ⌜ r ≡ least 255 (map unitsOf (hopsOn (now (book .entry)) e)) ⌝ }
+    requires { ⌜ Usable (now book) (edgeBy e) ⌝ }
+    ensures { λ r. ⌜ r ≡ least 255 (map unitsOf (hopsOn (now (book .entry)) (edgeBy e))) ⌝ }
 {
     let n = places::entry_count(book, e);
     let hops = n - (e.shortcut as usize);
@@ -98,10 +146,10 @@ fn units(book: &[u8], table: &[u16; places::PLACES], e: Edge) -> u8
     x
 }
 
-pub(crate) fn expiry(book: &[u8], table: &[u16; places::PLACES], e: Edge) -> u32
+pub(crate) fn expiry(book: &[u8], table: &[u16; places::PLACES], e: SolutionEdge) -> u32
     requires { ⌜ Ready (now book) (now table) ⌝ }
-    requires { ⌜ Usable (now book) e ⌝ }
-    ensures { λ r. ⌜ r ≡ expiryOn (now (book .entry)) e ⌝ }
+    requires { ⌜ Usable (now book) (edgeBy e) ⌝ }
+    ensures { λ r. ⌜ r ≡ expiryOn (now (book .entry)) (edgeBy e) ⌝ }
 {
     let start = segment::timestamp(book, e.position);
     let life = standard::types::exp_time_to_duration(units(book, table, e));
@@ -114,9 +162,9 @@ pub(crate) fn expiry(book: &[u8], table: &[u16; places::PLACES], e: Edge) -> u32
 // ---- info
 
 // Where the fold stops, from the first hop's entry.
-fn stop_from(e: Edge, k: usize) -> usize
+fn stop_from(e: SolutionEdge, k: usize) -> usize
     requires { ⌜ k < maxEntries ⌝ }
-    ensures { λ r. ⌜ (r ≡ stopFrom e k) × (r ≤ k + 1) ⌝ }
+    ensures { λ r. ⌜ (r ≡ stopFrom (edgeBy e) k) × (r ≤ k + 1) ⌝ }
 {
     if places::is_peer_hop(e, k) {
         return k + 1;
@@ -125,10 +173,10 @@ fn stop_from(e: Edge, k: usize) -> usize
 }
 
 // The segment's id, with the MACs of the entries before the first hop folded in.
-fn segment_id(book: &[u8], table: &[u16; places::PLACES], e: Edge) -> u16
+fn segment_id(book: &[u8], table: &[u16; places::PLACES], e: SolutionEdge) -> u16
     requires { ⌜ Ready (now book) (now table) ⌝ }
-    requires { ⌜ Usable (now book) e ⌝ }
-    ensures { λ r. ⌜ r ≡ idBelow (segmentOf (now (book .entry)) e) (stopAt (segmentOf (now (book .entry)) e) e) ⌝ }
+    requires { ⌜ Usable (now book) (edgeBy e) ⌝ }
+    ensures { λ r. ⌜ r ≡ idBelow (segmentOf (now (book .entry)) (edgeBy e)) (stopAt (segmentOf (now (book .entry)) (edgeBy e)) (edgeBy e)) ⌝ }
 {
     let n = places::entry_count(book, e);
     let stop = stop_from(e, places::entry_of(e, n, 0));
@@ -148,8 +196,8 @@ fn bit(t: bool) -> u8
     if t { 1 } else { 0 }
 }
 
-fn flags(e: Edge) -> u8
-    ensures { λ r. ⌜ r ≡ flagsOf e ⌝ }
+fn flags(e: SolutionEdge) -> u8
+    ensures { λ r. ⌜ r ≡ flagsOf (edgeBy e) ⌝ }
 {
     bit(e.construction) + 2 * bit(0 < e.peer)
 }
@@ -167,14 +215,14 @@ fn put_fields(out: &mut [u8], at: usize, flags: u8, hops: u8, id: u16, timestamp
 pub(crate) fn put_info(
     book: &[u8],
     table: &[u16; places::PLACES],
-    e: Edge,
+    e: SolutionEdge,
     out: &mut [u8],
     at: usize,
 ) -> usize
     requires { ⌜ Ready (now book) (now table) ⌝ }
-    requires { ⌜ Usable (now book) e ⌝ }
+    requires { ⌜ Usable (now book) (edgeBy e) ⌝ }
     requires { ⌜ at < 2 ^ 32 ⌝ }
-    ensures { λ r. ⌜ Wrote (now (out .entry)) at (infoBytes (now (book .entry)) e) (now (out .exit)) r × (r ≡ at + infoSize) ⌝ }
+    ensures { λ r. ⌜ Wrote (now (out .entry)) at (infoBytes (now (book .entry)) (edgeBy e)) (now (out .exit)) r × (r ≡ at + infoSize) ⌝ }
 {
     let n = places::entry_count(book, e);
     let hops = n - (e.shortcut as usize);

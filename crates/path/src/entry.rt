@@ -2,22 +2,20 @@
 ghost use mathlib.Core.Path.{_≡_};
 ghost use mathlib.Core.List.{_++_};
 ghost use Prim.Native.Nat.{_+_, _^_, _≤_, _<_, min};
-ghost use lib.ListN.{length};
-ghost use Rattle.spec.specs.Limits.{entrySize};
+ghost use lib.ListN.{length, take, drop};
+ghost use Rattle.spec.specs.Limits.{entrySize, hopSize};
 ghost use Rattle.spec.specs.Book.{isdAsnAt, asEntryAt};
 ghost use Rattle.spec.specs.Edges.{asOf};
 ghost use Rattle.output.specs.Write.{written};
 ghost use Rattle.spec.specs.Assembly.{least, mtusAt, hopOf, segmentOf};
 ghost use Rattle.spec.specs.Records.{hopOctets};
-ghost use Rattle.path.specs.Usable.{Ready, Usable};
+ghost use Rattle.path.specs.Usable.{edgeBy};
 ghost use Rattle.path.specs.Places.{Here, Wrote};
-ghost use Rattle.path.specs.declared.Part.the-variants.{Hops, Ases, Ids};
-ghost use Rattle.path.specs.Parts.{linkMtus, ingressShown, shownAs, asIf, idIf, interfacesHere, entryBytes};
-use crate::Part;
+ghost use Rattle.path.specs.Parts.{Hops, Ases, Ids, linkMtus, ingressShown, shownAs, asIf, idIf, interfacesHere, entryBytes};
 use crate::places;
 use crate::within;
-use spec::Edge;
 use spec::IsdAsn;
+use spec::SolutionEdge;
 
 // The bytes of a hop in a path.
 pub const HOP: usize = 11;
@@ -30,10 +28,10 @@ pub(crate) struct ShownIds {
 
 // ---- hops
 
-pub(crate) fn units_at(book: &[u8], e: Edge, m: usize, at: usize) -> u8
-    requires { ⌜ Here (now book) e m at ⌝ }
+pub(crate) fn units_at(book: &[u8], e: SolutionEdge, m: usize, at: usize) -> u8
+    requires { ⌜ Here (now book) (edgeBy e) m at ⌝ }
     requires { ⌜ at < 2 ^ 16 ⌝ }
-    ensures { λ r. ⌜ r ≡ hopOf (segmentOf (now (book .entry)) e) e m .units ⌝ }
+    ensures { λ r. ⌜ r ≡ hopOf (segmentOf (now (book .entry)) (edgeBy e)) (edgeBy e) m .units ⌝ }
 {
     if places::is_peer_hop(e, m) {
         let link = places::link_offset(e, at);
@@ -42,10 +40,10 @@ pub(crate) fn units_at(book: &[u8], e: Edge, m: usize, at: usize) -> u8
     book[at + 18]
 }
 
-fn ingress_at(book: &[u8], e: Edge, m: usize, at: usize) -> u16
-    requires { ⌜ Here (now book) e m at ⌝ }
+fn ingress_at(book: &[u8], e: SolutionEdge, m: usize, at: usize) -> u16
+    requires { ⌜ Here (now book) (edgeBy e) m at ⌝ }
     requires { ⌜ at < 2 ^ 16 ⌝ }
-    ensures { λ r. ⌜ r ≡ hopOf (segmentOf (now (book .entry)) e) e m .ingress ⌝ }
+    ensures { λ r. ⌜ r ≡ hopOf (segmentOf (now (book .entry)) (edgeBy e)) (edgeBy e) m .ingress ⌝ }
 {
     if places::is_peer_hop(e, m) {
         return within::read16(book, places::link_offset(e, at) + 13);
@@ -53,10 +51,10 @@ fn ingress_at(book: &[u8], e: Edge, m: usize, at: usize) -> u16
     within::read16(book, at + 14)
 }
 
-fn egress_at(book: &[u8], e: Edge, m: usize, at: usize) -> u16
-    requires { ⌜ Here (now book) e m at ⌝ }
+fn egress_at(book: &[u8], e: SolutionEdge, m: usize, at: usize) -> u16
+    requires { ⌜ Here (now book) (edgeBy e) m at ⌝ }
     requires { ⌜ at < 2 ^ 16 ⌝ }
-    ensures { λ r. ⌜ r ≡ hopOf (segmentOf (now (book .entry)) e) e m .egress ⌝ }
+    ensures { λ r. ⌜ r ≡ hopOf (segmentOf (now (book .entry)) (edgeBy e)) (edgeBy e) m .egress ⌝ }
 {
     if places::is_peer_hop(e, m) {
         return within::read16(book, places::link_offset(e, at) + 15);
@@ -64,29 +62,46 @@ fn egress_at(book: &[u8], e: Edge, m: usize, at: usize) -> u16
     within::read16(book, at + 16)
 }
 
-// An entry's own hop: in the book its units stand after the interfaces.
+// An entry's own hop: in the book its units stand after the interfaces. It is put together in a local one, which the compiler moves as a whole.
 fn put_own_hop(book: &[u8], at: usize, out: &mut [u8], to: usize)
     requires { ⌜ at + entrySize ≤ length (now book) ⌝ }
     requires { ⌜ at < 2 ^ 16 ⌝ }
-    requires { ⌜ to < 2 ^ 40 ⌝ }
+    requires { ⌜ to + hopSize ≤ length (now out) ⌝ }
     ensures { λ _. ⌜ now (out .exit) ≡ written (now (out .entry)) to (hopOctets (asEntryAt (now (book .entry)) at .hop)) ⌝ }
 {
-    output::put_byte(out, to, book[at + 18]);
-    output::put32(out, to + 1, within::read32(book, at + 14));
-    output::put32(out, to + 5, within::read32(book, at + 19));
-    output::put16(out, to + 9, within::read16(book, at + 23));
+    let mut r = [0u8; HOP];
+    r[0] = book[at + 18];
+    within::copy(book, at + 14, &mut r, 1, 4);
+    within::copy(book, at + 19, &mut r, 5, 6);
+    within::copy(&r, 0, out, to, HOP);
 }
 
-// A peer's hop stands in the book as in a path.
-fn put_hop(book: &[u8], e: Edge, m: usize, at: usize, out: &mut [u8], to: usize) -> usize
-    requires { ⌜ Here (now book) e m at ⌝ }
+// A peer's hop stands in the book as in a path; it too goes by way of a local one.
+fn put_peer_hop(book: &[u8], from: usize, out: &mut [u8], to: usize)
+    requires { ⌜ (from + hopSize ≤ length (now book)) × (to + hopSize ≤ length (now out)) ⌝ }
+    ensures { λ _. ⌜ now (out .exit) ≡ written (now (out .entry)) to (take hopSize (drop from (now (book .entry)))) ⌝ }
+{
+    let mut r = [0u8; HOP];
+    within::copy(book, from, &mut r, 0, HOP);
+    within::copy(&r, 0, out, to, HOP);
+}
+
+pub(crate) fn put_hop(
+    book: &[u8],
+    e: SolutionEdge,
+    m: usize,
+    at: usize,
+    out: &mut [u8],
+    to: usize,
+) -> usize
+    requires { ⌜ Here (now book) (edgeBy e) m at ⌝ }
     requires { ⌜ at < 2 ^ 16 ⌝ }
-    requires { ⌜ to < 2 ^ 40 ⌝ }
-    ensures { λ r. ⌜ Wrote (now (out .entry)) to (entryBytes (now (book .entry)) e Hops m) (now (out .exit)) r × (r ≤ to + 16) ⌝ }
+    requires { ⌜ to + hopSize ≤ length (now out) ⌝ }
+    ensures { λ r. ⌜ Wrote (now (out .entry)) to (entryBytes (now (book .entry)) (edgeBy e) Hops m) (now (out .exit)) r × (r ≤ to + hopSize) ⌝ }
 {
     if places::is_peer_hop(e, m) {
         let from = places::link_offset(e, at) + 12;
-        output::copy(book, from, HOP, out, to);
+        put_peer_hop(book, from, out, to);
         return to + HOP;
     }
     put_own_hop(book, at, out, to);
@@ -96,8 +111,8 @@ fn put_hop(book: &[u8], e: Edge, m: usize, at: usize, out: &mut [u8], to: usize)
 // ---- interfaces
 
 // Where a segment is left between two hops, at a shortcut above its first entry, no ingress is shown.
-fn shown_ingress(e: Edge, m: usize, ingress: u16) -> u16
-    ensures { λ r. ⌜ r ≡ ingressShown e m ingress ⌝ }
+fn shown_ingress(e: SolutionEdge, m: usize, ingress: u16) -> u16
+    ensures { λ r. ⌜ r ≡ ingressShown (edgeBy e) m ingress ⌝ }
 {
     if e.peer == 0 {
         if places::is_left(e, m) {
@@ -107,10 +122,10 @@ fn shown_ingress(e: Edge, m: usize, ingress: u16) -> u16
     ingress
 }
 
-fn shown(book: &[u8], e: Edge, m: usize, at: usize) -> ShownIds
-    requires { ⌜ Here (now book) e m at ⌝ }
+fn shown(book: &[u8], e: SolutionEdge, m: usize, at: usize) -> ShownIds
+    requires { ⌜ Here (now book) (edgeBy e) m at ⌝ }
     requires { ⌜ at < 2 ^ 16 ⌝ }
-    ensures { λ r. ⌜ interfacesHere (now (book .entry)) e m ≡ shownAs (asOf (segmentOf (now (book .entry)) e) m) (r .first) ++ shownAs (asOf (segmentOf (now (book .entry)) e) m) (r .second) ⌝ }
+    ensures { λ r. ⌜ interfacesHere (now (book .entry)) (edgeBy e) m ≡ shownAs (asOf (segmentOf (now (book .entry)) (edgeBy e)) m) (r .first) ++ shownAs (asOf (segmentOf (now (book .entry)) (edgeBy e)) m) (r .second) ⌝ }
 {
     let egress = egress_at(book, e, m, at);
     let ingress = shown_ingress(e, m, ingress_at(book, e, m, at));
@@ -127,24 +142,24 @@ fn shown(book: &[u8], e: Edge, m: usize, at: usize) -> ShownIds
 }
 
 fn put_as(out: &mut [u8], to: usize, local: IsdAsn, id: u16) -> usize
-    requires { ⌜ to < 2 ^ 41 ⌝ }
+    requires { ⌜ to + 8 ≤ length (now out) ⌝ }
     ensures { λ r. ⌜ Wrote (now (out .entry)) to (asIf local id) (now (out .exit)) r × (r ≤ to + 8) ⌝ }
 {
     if id == 0 {
         return to;
     }
-    output::put64(out, to, local.0);
+    within::put64(out, to, local.0);
     to + 8
 }
 
 fn put_id(out: &mut [u8], to: usize, id: u16) -> usize
-    requires { ⌜ to < 2 ^ 41 ⌝ }
+    requires { ⌜ to + 2 ≤ length (now out) ⌝ }
     ensures { λ r. ⌜ Wrote (now (out .entry)) to (idIf id) (now (out .exit)) r × (r ≤ to + 2) ⌝ }
 {
     if id == 0 {
         return to;
     }
-    output::put16(out, to, id);
+    within::put16(out, to, id);
     to + 2
 }
 
@@ -155,11 +170,18 @@ fn local_at(book: &[u8], at: usize) -> IsdAsn
     IsdAsn(within::read64(book, at))
 }
 
-fn put_ases(book: &[u8], e: Edge, m: usize, at: usize, out: &mut [u8], to: usize) -> usize
-    requires { ⌜ Here (now book) e m at ⌝ }
+pub(crate) fn put_ases(
+    book: &[u8],
+    e: SolutionEdge,
+    m: usize,
+    at: usize,
+    out: &mut [u8],
+    to: usize,
+) -> usize
+    requires { ⌜ Here (now book) (edgeBy e) m at ⌝ }
     requires { ⌜ at < 2 ^ 16 ⌝ }
-    requires { ⌜ to < 2 ^ 40 ⌝ }
-    ensures { λ r. ⌜ Wrote (now (out .entry)) to (entryBytes (now (book .entry)) e Ases m) (now (out .exit)) r × (r ≤ to + 16) ⌝ }
+    requires { ⌜ to + 16 ≤ length (now out) ⌝ }
+    ensures { λ r. ⌜ Wrote (now (out .entry)) to (entryBytes (now (book .entry)) (edgeBy e) Ases m) (now (out .exit)) r × (r ≤ to + 16) ⌝ }
 {
     let shown = shown(book, e, m, at);
     let local = local_at(book, at);
@@ -167,38 +189,22 @@ fn put_ases(book: &[u8], e: Edge, m: usize, at: usize, out: &mut [u8], to: usize
     put_as(out, next, local, shown.second)
 }
 
-fn put_ids(book: &[u8], e: Edge, m: usize, at: usize, out: &mut [u8], to: usize) -> usize
-    requires { ⌜ Here (now book) e m at ⌝ }
+pub(crate) fn put_ids(
+    book: &[u8],
+    e: SolutionEdge,
+    m: usize,
+    at: usize,
+    out: &mut [u8],
+    to: usize,
+) -> usize
+    requires { ⌜ Here (now book) (edgeBy e) m at ⌝ }
     requires { ⌜ at < 2 ^ 16 ⌝ }
-    requires { ⌜ to < 2 ^ 40 ⌝ }
-    ensures { λ r. ⌜ Wrote (now (out .entry)) to (entryBytes (now (book .entry)) e Ids m) (now (out .exit)) r × (r ≤ to + 16) ⌝ }
+    requires { ⌜ to + 4 ≤ length (now out) ⌝ }
+    ensures { λ r. ⌜ Wrote (now (out .entry)) to (entryBytes (now (book .entry)) (edgeBy e) Ids m) (now (out .exit)) r × (r ≤ to + 4) ⌝ }
 {
     let shown = shown(book, e, m, at);
     let next = put_id(out, to, shown.first);
     put_id(out, next, shown.second)
-}
-
-pub(crate) fn put_entry(
-    book: &[u8],
-    table: &[u16; places::PLACES],
-    e: Edge,
-    m: usize,
-    part: Part,
-    out: &mut [u8],
-    to: usize,
-) -> usize
-    requires { ⌜ Ready (now book) (now table) ⌝ }
-    requires { ⌜ Usable (now book) e ⌝ }
-    requires { ⌜ m < length (segmentOf (now book) e .entries) ⌝ }
-    requires { ⌜ to < 2 ^ 40 ⌝ }
-    ensures { λ r. ⌜ Wrote (now (out .entry)) to (entryBytes (now (book .entry)) e part m) (now (out .exit)) r × (r ≤ to + 16) ⌝ }
-{
-    let at = places::offset(book, table, e, m);
-    match part {
-        Part::Hops => put_hop(book, e, m, at, out, to),
-        Part::Ases => put_ases(book, e, m, at, out, to),
-        Part::Ids => put_ids(book, e, m, at, out, to),
-    }
 }
 
 // ---- MTUs
@@ -213,10 +219,10 @@ fn less(x: u16, y: u16) -> u16
 }
 
 // The least of x and the MTU of the link over which the entry is entered.
-fn link_mtu(book: &[u8], e: Edge, m: usize, at: usize, x: u16) -> u16
-    requires { ⌜ Here (now book) e m at ⌝ }
+fn link_mtu(book: &[u8], e: SolutionEdge, m: usize, at: usize, x: u16) -> u16
+    requires { ⌜ Here (now book) (edgeBy e) m at ⌝ }
     requires { ⌜ at < 2 ^ 16 ⌝ }
-    ensures { λ r. ⌜ r ≡ least x (linkMtus (segmentOf (now (book .entry)) e) e m) ⌝ }
+    ensures { λ r. ⌜ r ≡ least x (linkMtus (segmentOf (now (book .entry)) (edgeBy e)) (edgeBy e) m) ⌝ }
 {
     if places::is_peer_hop(e, m) {
         return less(x, within::read16(book, places::link_offset(e, at) + 10));
@@ -232,10 +238,10 @@ fn link_mtu(book: &[u8], e: Edge, m: usize, at: usize, x: u16) -> u16
 }
 
 // The least of x and the entry's MTUs.
-pub(crate) fn mtu_at(book: &[u8], e: Edge, m: usize, at: usize, x: u16) -> u16
-    requires { ⌜ Here (now book) e m at ⌝ }
+pub(crate) fn mtu_at(book: &[u8], e: SolutionEdge, m: usize, at: usize, x: u16) -> u16
+    requires { ⌜ Here (now book) (edgeBy e) m at ⌝ }
     requires { ⌜ at < 2 ^ 16 ⌝ }
-    ensures { λ r. ⌜ r ≡ least x (mtusAt (segmentOf (now (book .entry)) e) e m) ⌝ }
+    ensures { λ r. ⌜ r ≡ least x (mtusAt (segmentOf (now (book .entry)) (edgeBy e)) (edgeBy e) m) ⌝ }
 {
     let y = link_mtu(book, e, m, at, x);
     less(y, (within::read32(book, at + 8) % 65536) as u16)

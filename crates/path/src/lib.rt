@@ -13,44 +13,50 @@ ghost use Rattle.spec.specs.Limits.{pathSize};
 ghost use Rattle.spec.specs.Answers.{pathAnswer, assembly};
 ghost use Rattle.path.specs.Usable.{Ready};
 ghost use Rattle.graph.specs.Recorded.{chainEdges};
-ghost use Rattle.path.specs.Whole.{UsableChain};
+ghost use Rattle.path.specs.Whole.{edgesIn, UsableRecord};
 use graph::Chain;
 use spec::IsdAsn;
 use spec::Path;
 use spec::PathAnswer;
 use spec::Refusal;
 
-// The parts of a path's record that go by entries.
-pub enum Part {
-    Hops,
-    Ases,
-    Ids,
+// How many edges a chain has.
+fn edge_count(chain: Chain) -> usize
+    ensures { λ r. ⌜ r ≡ length (chainEdges chain) ⌝ }
+{
+    match chain {
+        Chain::One(_) => 1,
+        Chain::Two(_, _) => 2,
+        Chain::Three(_, _, _) => 3,
+        _ => 0,
+    }
 }
 
-// The path of a chain, in `out`: its record, or zeros where it is Loop or Bare.
+// The path of a record's first `count` edges, in `out`: its record, or zeros where it is Loop or Bare.
 pub(crate) fn build(
     book: &[u8],
     table: &[u16; places::PLACES],
-    chain: Chain,
+    given: &[u8],
+    count: usize,
     out: &mut [u8],
 ) -> PathAnswer
     requires { ⌜ Ready (now book) (now table) ⌝ }
-    requires { ⌜ UsableChain (now book) chain ⌝ }
+    requires { ⌜ UsableRecord (now book) (now given) count ⌝ }
     requires { ⌜ pathSize ≤ length (now out) ⌝ }
-    ensures { λ r. ⌜ (r ≡ pathAnswer (now (book .entry)) (length (now (out .entry))) (chainEdges chain) .0) × (now (out .exit) ≡ pathAnswer (now (book .entry)) (length (now (out .entry))) (chainEdges chain) .1) ⌝ }
+    ensures { λ r. ⌜ (r ≡ pathAnswer (now (book .entry)) (length (now (out .entry))) (edgesIn (now (given .entry)) count) .0) × (now (out .exit) ≡ pathAnswer (now (book .entry)) (length (now (out .entry))) (edgesIn (now (given .entry)) count) .1) ⌝ }
 {
-    let front = record::put_front(book, table, chain, out);
+    let front = record::put_front(book, table, given, count, out);
     let ases = front.ases;
-    let count = (front.ids - ases) / 8;
-    if frequent::is_frequent(out, ases, count) {
+    let shown = (front.ids - ases) / 8;
+    if frequent::is_frequent(out, ases, shown) {
         output::zero(out, 0);
         return PathAnswer::Loop;
     }
-    if count == 0 {
+    if shown == 0 {
         output::zero(out, 0);
         return PathAnswer::Bare;
     }
-    record::put_path(book, table, chain, out, front);
+    record::put_path(book, table, given, count, out, front);
     PathAnswer::Path
 }
 
@@ -73,5 +79,5 @@ pub fn assemble(src: IsdAsn, dst: IsdAsn, book: &[u8], given: &[u8], out: &mut [
         output::zero(out, 0);
         return PathAnswer::Refused(Refusal::Stranger);
     }
-    build(book, &table, chain, out)
+    build(book, &table, given, edge_count(chain), out)
 }

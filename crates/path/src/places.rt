@@ -6,29 +6,34 @@ ghost use Rattle.spec.specs.declared.Verdict.the-variants.{Accepted};
 ghost use Rattle.spec.specs.Limits.{entrySize, maxEntries};
 ghost use Rattle.spec.specs.Book.{verdict, macAt};
 ghost use Rattle.spec.specs.Assembly.{isPeerHop, segmentOf};
-ghost use Rattle.path.specs.Usable.{Ready, Usable};
+ghost use Rattle.path.specs.Usable.{Ready, edgeBy, Usable};
 ghost use Rattle.path.specs.Places.{linkOffset, isLeft, Here, entryFrom};
 use spec::AsEntry;
-use spec::Edge;
+use spec::Head;
 use spec::Limits;
 use spec::PeerEntry;
+use spec::Sizes;
+use spec::SolutionEdge;
 
 pub const PLACES: usize = Limits::SEGMENTS * Limits::ENTRIES;
 
-// How many entries the edge's segment has.
-pub(crate) fn entry_count(book: &[u8], e: Edge) -> usize
+// Where the low byte of the first segment's entry count stands.
+const COUNT: usize = Sizes::SIZE + 7;
+
+// How many entries the edge's segment has: in an accepted book the count fits its low byte.
+pub(crate) fn entry_count(book: &[u8], e: SolutionEdge) -> usize
     requires { ⌜ verdict (now book) ≡ Accepted ⌝ }
-    requires { ⌜ Usable (now book) e ⌝ }
-    ensures { λ r. ⌜ (r ≡ length (segmentOf (now (book .entry)) e .entries)) × (r ≤ maxEntries) × (e .shortcut < r) ⌝ }
+    requires { ⌜ Usable (now book) (edgeBy e) ⌝ }
+    ensures { λ r. ⌜ (r ≡ length (segmentOf (now (book .entry)) (edgeBy e) .entries)) × (r ≤ maxEntries) × (e .shortcut < r) ⌝ }
 {
-    segment::entry_count(book, e.position) as usize
+    book[COUNT + Head::SIZE * (e.position as usize)] as usize
 }
 
 // The entry of hop j, of n entries.
-pub(crate) fn entry_of(e: Edge, n: usize, j: usize) -> usize
+pub(crate) fn entry_of(e: SolutionEdge, n: usize, j: usize) -> usize
     requires { ⌜ n ≤ maxEntries ⌝ }
     requires { ⌜ e .shortcut + j < n ⌝ }
-    ensures { λ r. ⌜ (r ≡ entryFrom e n j) × (r < n) ⌝ }
+    ensures { λ r. ⌜ (r ≡ entryFrom (edgeBy e) n j) × (r < n) ⌝ }
 {
     if e.construction {
         return (e.shortcut as usize) + j;
@@ -37,28 +42,28 @@ pub(crate) fn entry_of(e: Edge, n: usize, j: usize) -> usize
 }
 
 // Where entry m of the edge's segment stands.
-pub(crate) fn offset(book: &[u8], table: &[u16; PLACES], e: Edge, m: usize) -> usize
+pub(crate) fn offset(book: &[u8], table: &[u16; PLACES], e: SolutionEdge, m: usize) -> usize
     requires { ⌜ Ready (now book) (now table) ⌝ }
-    requires { ⌜ Usable (now book) e ⌝ }
-    requires { ⌜ m < length (segmentOf (now book) e .entries) ⌝ }
-    ensures { λ r. ⌜ Here (now (book .entry)) e m r × (r < 2 ^ 16) ⌝ }
+    requires { ⌜ Usable (now book) (edgeBy e) ⌝ }
+    requires { ⌜ m < length (segmentOf (now book) (edgeBy e) .entries) ⌝ }
+    ensures { λ r. ⌜ Here (now (book .entry)) (edgeBy e) m r × (r < 2 ^ 16) ⌝ }
 {
     let row = Limits::ENTRIES * (e.position as usize);
     table[row + m] as usize
 }
 
 // Where the edge's peer stands, after its entry.
-pub(crate) fn link_offset(e: Edge, at: usize) -> usize
+pub(crate) fn link_offset(e: SolutionEdge, at: usize) -> usize
     requires { ⌜ at < 2 ^ 32 ⌝ }
     requires { ⌜ 0 < e .peer ⌝ }
-    ensures { λ r. ⌜ (r ≡ linkOffset e at) × (r < 2 ^ 33) ⌝ }
+    ensures { λ r. ⌜ (r ≡ linkOffset (edgeBy e) at) × (r < 2 ^ 33) ⌝ }
 {
     at + AsEntry::SIZE + PeerEntry::SIZE * ((e.peer - 1) as usize)
 }
 
 // The hop at entry m is the peer's.
-pub(crate) fn is_peer_hop(e: Edge, m: usize) -> bool
-    ensures { λ r. ⌜ r ≡ isPeerHop e m ⌝ }
+pub(crate) fn is_peer_hop(e: SolutionEdge, m: usize) -> bool
+    ensures { λ r. ⌜ r ≡ isPeerHop (edgeBy e) m ⌝ }
 {
     if m == (e.shortcut as usize) {
         return 0 < e.peer;
@@ -67,8 +72,8 @@ pub(crate) fn is_peer_hop(e: Edge, m: usize) -> bool
 }
 
 // Entry m is the shortcut, above the segment's first entry: there the path leaves the segment, or comes to it.
-pub(crate) fn is_left(e: Edge, m: usize) -> bool
-    ensures { λ r. ⌜ r ≡ isLeft e m ⌝ }
+pub(crate) fn is_left(e: SolutionEdge, m: usize) -> bool
+    ensures { λ r. ⌜ r ≡ isLeft (edgeBy e) m ⌝ }
 {
     if m == (e.shortcut as usize) {
         return 0 < e.shortcut;

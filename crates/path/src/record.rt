@@ -1,107 +1,149 @@
-// The record of a whole path: the edges of a chain one after the other.
+// The record of a whole path: the edges of a solution's record one after the other.
 ghost use mathlib.Core.Path.{_≡_};
 ghost use mathlib.Core.List.{[], _∷_, _++_, map, flatMap};
-ghost use Prim.Native.Nat.{_+_, _^_, _≤_, _<_, min};
+ghost use Prim.Native.Nat.{_+_, _*_, _^_, _≤_, _<_, min};
 ghost use lib.ListN.{length};
-ghost use Rattle.spec.specs.Limits.{maxMtu, maxTime, pathSize};
+ghost use Rattle.spec.specs.Limits.{maxEdges, maxEntries, maxMtu, maxTime, infoSize, hopSize, pathSize};
 ghost use Rattle.spec.specs.Basics.{padded};
 ghost use Rattle.spec.specs.Octets.{octets2, octets4, octets8};
 ghost use Rattle.spec.specs.Assembly.{least, mtusOn, expiryOn, combinedPath};
-ghost use Rattle.spec.specs.Records.{pathHead, pathHeadOctets, pathOctets};
+ghost use Rattle.spec.specs.Records.{recordEdge, pathHead, pathHeadOctets, pathOctets};
 ghost use Rattle.output.specs.Write.{written};
-ghost use Rattle.graph.specs.Recorded.{chainEdges};
-ghost use Rattle.path.specs.Usable.{Ready, Usable};
+ghost use Rattle.path.specs.Usable.{Ready, edgeBy, Usable};
 ghost use Rattle.path.specs.Places.{Wrote};
-ghost use Rattle.path.specs.Parts.{infoBytes, edgeBytes};
-ghost use Rattle.path.specs.Whole.{UsableChain, Fronted};
-use crate::Part;
+ghost use Rattle.path.specs.Parts.{Hops, Ases, Ids, infoBytes, edgeBytes};
+ghost use Rattle.path.specs.Whole.{edgesIn, UsableRecord, Fronted};
 use crate::edge;
 use crate::entry;
 use crate::places;
-use graph::Chain;
-use spec::Edge;
 use spec::Path;
+use spec::SolutionEdge;
 
 // The bytes of a path record before its infos.
 const HEAD: usize = 26;
 
+// Edge x of a record.
+fn edge_in(given: &[u8], x: usize) -> SolutionEdge
+    requires { ⌜ 4 + 4 * x + 4 ≤ length (now given) ⌝ }
+    ensures { λ r. ⌜ r ≡ recordEdge (now (given .entry)) x ⌝ }
+{
+    let at = 4 + 4 * x;
+    SolutionEdge {
+        position: given[at],
+        shortcut: given[at + 1],
+        peer: given[at + 2],
+        construction: given[at + 3] == 1,
+    }
+}
+
 pub(crate) fn put_infos(
     book: &[u8],
     table: &[u16; places::PLACES],
-    chain: Chain,
+    given: &[u8],
+    count: usize,
     out: &mut [u8],
     at: usize,
 ) -> usize
     requires { ⌜ Ready (now book) (now table) ⌝ }
-    requires { ⌜ UsableChain (now book) chain ⌝ }
+    requires { ⌜ UsableRecord (now book) (now given) count ⌝ }
     requires { ⌜ at < 2 ^ 24 ⌝ }
-    ensures { λ r. ⌜ Wrote (now (out .entry)) at (flatMap (infoBytes (now (book .entry))) (chainEdges chain)) (now (out .exit)) r × (r ≤ at + 1024) ⌝ }
+    ensures { λ r. ⌜ Wrote (now (out .entry)) at (flatMap (infoBytes (now (book .entry))) (edgesIn (now (given .entry)) count)) (now (out .exit)) r × (r ≤ at + maxEdges * infoSize) ⌝ }
 {
-    match chain {
-        Chain::One(e) => edge::put_info(book, table, e, out, at),
-        Chain::Two(e, f) => {
-            let next = edge::put_info(book, table, e, out, at);
-            edge::put_info(book, table, f, out, next)
-        }
-        Chain::Three(e, f, g) => {
-            let next = edge::put_info(book, table, e, out, at);
-            let last = edge::put_info(book, table, f, out, next);
-            edge::put_info(book, table, g, out, last)
-        }
-        _ => at,
+    let mut to = at;
+    let mut x: usize = 0;
+    while x < count {
+        to = edge::put_info(book, table, edge_in(given, x), out, to);
+        x += 1;
     }
+    to
 }
 
-pub(crate) fn put_parts(
+pub(crate) fn put_hops(
     book: &[u8],
     table: &[u16; places::PLACES],
-    chain: Chain,
-    part: Part,
+    given: &[u8],
+    count: usize,
     out: &mut [u8],
     at: usize,
 ) -> usize
     requires { ⌜ Ready (now book) (now table) ⌝ }
-    requires { ⌜ UsableChain (now book) chain ⌝ }
-    requires { ⌜ at < 2 ^ 24 ⌝ }
-    ensures { λ r. ⌜ Wrote (now (out .entry)) at (flatMap (edgeBytes (now (book .entry)) part) (chainEdges chain)) (now (out .exit)) r × (r ≤ at + 1024) ⌝ }
+    requires { ⌜ UsableRecord (now book) (now given) count ⌝ }
+    requires { ⌜ at + maxEdges * maxEntries * hopSize ≤ length (now out) ⌝ }
+    ensures { λ r. ⌜ Wrote (now (out .entry)) at (flatMap (edgeBytes (now (book .entry)) Hops) (edgesIn (now (given .entry)) count)) (now (out .exit)) r × (r ≤ at + maxEdges * maxEntries * hopSize) ⌝ }
 {
-    match chain {
-        Chain::One(e) => edge::put_part(book, table, e, part, out, at),
-        Chain::Two(e, f) => {
-            let next = edge::put_part(book, table, e, part, out, at);
-            edge::put_part(book, table, f, part, out, next)
-        }
-        Chain::Three(e, f, g) => {
-            let next = edge::put_part(book, table, e, part, out, at);
-            let last = edge::put_part(book, table, f, part, out, next);
-            edge::put_part(book, table, g, part, out, last)
-        }
-        _ => at,
+    let mut to = at;
+    let mut x: usize = 0;
+    while x < count {
+        to = edge::put_hops(book, table, edge_in(given, x), out, to);
+        x += 1;
     }
+    to
+}
+
+pub(crate) fn put_ases(
+    book: &[u8],
+    table: &[u16; places::PLACES],
+    given: &[u8],
+    count: usize,
+    out: &mut [u8],
+    at: usize,
+) -> usize
+    requires { ⌜ Ready (now book) (now table) ⌝ }
+    requires { ⌜ UsableRecord (now book) (now given) count ⌝ }
+    requires { ⌜ at + maxEdges * maxEntries * 16 ≤ length (now out) ⌝ }
+    ensures { λ r. ⌜ Wrote (now (out .entry)) at (flatMap (edgeBytes (now (book .entry)) Ases) (edgesIn (now (given .entry)) count)) (now (out .exit)) r × (r ≤ at + maxEdges * maxEntries * 16) ⌝ }
+{
+    let mut to = at;
+    let mut x: usize = 0;
+    while x < count {
+        to = edge::put_ases(book, table, edge_in(given, x), out, to);
+        x += 1;
+    }
+    to
+}
+
+pub(crate) fn put_ids(
+    book: &[u8],
+    table: &[u16; places::PLACES],
+    given: &[u8],
+    count: usize,
+    out: &mut [u8],
+    at: usize,
+) -> usize
+    requires { ⌜ Ready (now book) (now table) ⌝ }
+    requires { ⌜ UsableRecord (now book) (now given) count ⌝ }
+    requires { ⌜ at + maxEdges * maxEntries * 4 ≤ length (now out) ⌝ }
+    ensures { λ r. ⌜ Wrote (now (out .entry)) at (flatMap (edgeBytes (now (book .entry)) Ids) (edgesIn (now (given .entry)) count)) (now (out .exit)) r × (r ≤ at + maxEdges * maxEntries * 4) ⌝ }
+{
+    let mut to = at;
+    let mut x: usize = 0;
+    while x < count {
+        to = edge::put_ids(book, table, edge_in(given, x), out, to);
+        x += 1;
+    }
+    to
 }
 
 // The least MTU.
-pub(crate) fn mtu(book: &[u8], table: &[u16; places::PLACES], chain: Chain) -> u16
+pub(crate) fn mtu(book: &[u8], table: &[u16; places::PLACES], given: &[u8], count: usize) -> u16
     requires { ⌜ Ready (now book) (now table) ⌝ }
-    requires { ⌜ UsableChain (now book) chain ⌝ }
-    ensures { λ r. ⌜ r ≡ least maxMtu (flatMap (mtusOn (now (book .entry))) (chainEdges chain)) ⌝ }
+    requires { ⌜ UsableRecord (now book) (now given) count ⌝ }
+    ensures { λ r. ⌜ r ≡ least maxMtu (flatMap (mtusOn (now (book .entry))) (edgesIn (now (given .entry)) count)) ⌝ }
 {
-    match chain {
-        Chain::One(e) => edge::mtu(book, table, e, 65535),
-        Chain::Two(e, f) => edge::mtu(book, table, f, edge::mtu(book, table, e, 65535)),
-        Chain::Three(e, f, g) => {
-            let x = edge::mtu(book, table, e, 65535);
-            edge::mtu(book, table, g, edge::mtu(book, table, f, x))
-        }
-        _ => 65535,
+    let mut y: u16 = 65535;
+    let mut x: usize = 0;
+    while x < count {
+        y = edge::mtu(book, table, edge_in(given, x), y);
+        x += 1;
     }
+    y
 }
 
 // The sooner of a time and an edge's expiry.
-fn sooner(book: &[u8], table: &[u16; places::PLACES], e: Edge, x: u32) -> u32
+fn sooner(book: &[u8], table: &[u16; places::PLACES], e: SolutionEdge, x: u32) -> u32
     requires { ⌜ Ready (now book) (now table) ⌝ }
-    requires { ⌜ Usable (now book) e ⌝ }
-    ensures { λ r. ⌜ r ≡ min x (expiryOn (now (book .entry)) e) ⌝ }
+    requires { ⌜ Usable (now book) (edgeBy e) ⌝ }
+    ensures { λ r. ⌜ r ≡ min x (expiryOn (now (book .entry)) (edgeBy e)) ⌝ }
 {
     let y = edge::expiry(book, table, e);
     if y < x {
@@ -111,20 +153,18 @@ fn sooner(book: &[u8], table: &[u16; places::PLACES], e: Edge, x: u32) -> u32
 }
 
 // The soonest expiry.
-pub(crate) fn expiry(book: &[u8], table: &[u16; places::PLACES], chain: Chain) -> u32
+pub(crate) fn expiry(book: &[u8], table: &[u16; places::PLACES], given: &[u8], count: usize) -> u32
     requires { ⌜ Ready (now book) (now table) ⌝ }
-    requires { ⌜ UsableChain (now book) chain ⌝ }
-    ensures { λ r. ⌜ r ≡ least maxTime (map (expiryOn (now (book .entry))) (chainEdges chain)) ⌝ }
+    requires { ⌜ UsableRecord (now book) (now given) count ⌝ }
+    ensures { λ r. ⌜ r ≡ least maxTime (map (expiryOn (now (book .entry))) (edgesIn (now (given .entry)) count)) ⌝ }
 {
-    match chain {
-        Chain::One(e) => sooner(book, table, e, edge::LAST),
-        Chain::Two(e, f) => sooner(book, table, f, sooner(book, table, e, edge::LAST)),
-        Chain::Three(e, f, g) => {
-            let x = sooner(book, table, e, edge::LAST);
-            sooner(book, table, g, sooner(book, table, f, x))
-        }
-        _ => edge::LAST,
+    let mut y: u32 = edge::LAST;
+    let mut x: usize = 0;
+    while x < count {
+        y = sooner(book, table, edge_in(given, x), y);
+        x += 1;
     }
+    y
 }
 
 // ---- infos, hops and ASes
@@ -139,16 +179,18 @@ pub(crate) struct Front {
 pub(crate) fn put_front(
     book: &[u8],
     table: &[u16; places::PLACES],
-    chain: Chain,
+    given: &[u8],
+    count: usize,
     out: &mut [u8],
 ) -> Front
     requires { ⌜ Ready (now book) (now table) ⌝ }
-    requires { ⌜ UsableChain (now book) chain ⌝ }
-    ensures { λ r. ⌜ Fronted (now (book .entry)) (chainEdges chain) (now (out .exit)) r × (r .ids < 2 ^ 16) ⌝ }
+    requires { ⌜ UsableRecord (now book) (now given) count ⌝ }
+    requires { ⌜ pathSize ≤ length (now out) ⌝ }
+    ensures { λ r. ⌜ Fronted (now (book .entry)) (edgesIn (now (given .entry)) count) (now (out .exit)) r × (r .ids + maxEdges * maxEntries * 4 ≤ pathSize) ⌝ }
 {
-    let hops = put_infos(book, table, chain, out, HEAD);
-    let ases = put_parts(book, table, chain, Part::Hops, out, hops);
-    let ids = put_parts(book, table, chain, Part::Ases, out, ases);
+    let hops = put_infos(book, table, given, count, out, HEAD);
+    let ases = put_hops(book, table, given, count, out, hops);
+    let ids = put_ases(book, table, given, count, out, ases);
     Front {
         hops: hops,
         ases: ases,
@@ -162,19 +204,20 @@ pub(crate) fn put_front(
 fn path_head(
     book: &[u8],
     table: &[u16; places::PLACES],
-    chain: Chain,
+    given: &[u8],
+    count: usize,
     out: &[u8],
     front: Front,
 ) -> Path
     requires { ⌜ Ready (now book) (now table) ⌝ }
-    requires { ⌜ UsableChain (now book) chain ⌝ }
-    requires { ⌜ Fronted (now book) (chainEdges chain) (now out) front ⌝ }
+    requires { ⌜ UsableRecord (now book) (now given) count ⌝ }
+    requires { ⌜ Fronted (now book) (edgesIn (now given) count) (now out) front ⌝ }
     requires { ⌜ pathSize ≤ length (now out) ⌝ }
     requires { ⌜ front .ases < front .ids ⌝ }
-    ensures { λ r. ⌜ r ≡ pathHead (combinedPath (now (book .entry)) (chainEdges chain)) ⌝ }
+    ensures { λ r. ⌜ r ≡ pathHead (combinedPath (now (book .entry)) (edgesIn (now (given .entry)) count)) ⌝ }
 {
-    let mtu = mtu(book, table, chain);
-    let expiry = expiry(book, table, chain);
+    let mtu = mtu(book, table, given, count);
+    let expiry = expiry(book, table, given, count);
     let first = segment::isd_asn(out, front.ases);
     let last = segment::isd_asn(out, front.ids - 8);
     Path {
@@ -219,19 +262,20 @@ fn put_head(out: &mut [u8], head: Path)
 pub(crate) fn put_path(
     book: &[u8],
     table: &[u16; places::PLACES],
-    chain: Chain,
+    given: &[u8],
+    count: usize,
     out: &mut [u8],
     front: Front,
 )
     requires { ⌜ Ready (now book) (now table) ⌝ }
-    requires { ⌜ UsableChain (now book) chain ⌝ }
-    requires { ⌜ Fronted (now book) (chainEdges chain) (now out) front ⌝ }
+    requires { ⌜ UsableRecord (now book) (now given) count ⌝ }
+    requires { ⌜ Fronted (now book) (edgesIn (now given) count) (now out) front ⌝ }
     requires { ⌜ pathSize ≤ length (now out) ⌝ }
-    requires { ⌜ (front .ases < front .ids) × (front .ids < 2 ^ 16) ⌝ }
-    ensures { λ _. ⌜ now (out .exit) ≡ padded (length (now (out .entry))) (pathOctets (combinedPath (now (book .entry)) (chainEdges chain))) ⌝ }
+    requires { ⌜ (front .ases < front .ids) × (front .ids + maxEdges * maxEntries * 4 ≤ pathSize) ⌝ }
+    ensures { λ _. ⌜ now (out .exit) ≡ padded (length (now (out .entry))) (pathOctets (combinedPath (now (book .entry)) (edgesIn (now (given .entry)) count))) ⌝ }
 {
-    let head = path_head(book, table, chain, out, front);
-    let end = put_parts(book, table, chain, Part::Ids, out, front.ids);
+    let head = path_head(book, table, given, count, out, front);
+    let end = put_ids(book, table, given, count, out, front.ids);
     put_head(out, head);
     output::zero(out, end);
 }

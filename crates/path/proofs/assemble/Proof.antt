@@ -16,15 +16,16 @@ returns-3 c = stranger-answer _ _ _ _ _ (c .before .before .before .before .befo
 
 build-requires : tie.Need-build-requires
 build-requires c κs = (
-  table-ready _ _ (accepted-by _ _ _ _ (c .before .before .before .before .before .chain-of .result) (c .before .before .before .before .before .chain-of .ensures .0) (c .before .before .before .before .match .keys2)) (c .before .before .before .before .before .chain-of .ensures .1),
+  table-ready _ _ (accepted-by _ _ _ _ (c .before .before .before .before .before .before .chain-of .result) (c .before .before .before .before .before .before .chain-of .ensures .0) (c .before .before .before .before .before .match .keys2)) (c .before .before .before .before .before .before .chain-of .ensures .1),
   (
-    chain-usable _ _ _ _ (chain-by _ _ _ _ (c .before .before .before .before .before .chain-of .result) (c .before .before .before .before .before .chain-of .ensures .0) (c .before .before .before .before .match .keys2) (c .before .before .match2 .keys2) .chain),
-    c .before .before .before .if1 .left,
+    chain-usable _ _ _ _ (c .before .before .before .before .before .before .chain-of .result) (chain-by _ _ _ _ (c .before .before .before .before .before .before .chain-of .result) (c .before .before .before .before .before .before .chain-of .ensures .0) (c .before .before .before .before .before .match .keys2) (c .before .before .before .match2 .keys2)) _ (c .before .edge-count .ensures),
+    c .before .before .before .before .if1 .left,
   ),
 )
 
 returns-4 : tie.Need-returns-4
-returns-4 c = path-answer _ _ _ _ (c .before .before .before .before .before .before .before .before .chain-of .result) (c .before .before .before .before .before .before .before .before .chain-of .ensures .0) (c .before .before .before .before .before .before .before .match .keys2) (c .before .before .before .before .before .match2 .keys2) _ (c .before .before .before .before .before .before .if1 .left) _ _ (c .before .before .build .ensures)
+returns-4 c =
+    path-answer _ _ _ _ (c .before .before .before .before .before .before .before .before .before .chain-of .result) (chain-by _ _ _ _ (c .before .before .before .before .before .before .before .before .before .chain-of .result) (c .before .before .before .before .before .before .before .before .before .chain-of .ensures .0) (c .before .before .before .before .before .before .before .before .match .keys2) (c .before .before .before .before .before .before .match2 .keys2)) _ (c .before .before .before .before .edge-count .ensures) _ (c .before .before .before .before .before .before .before .if1 .left) _ _ (c .before .before .build .ensures)
 
 pub assemble-spec : {M : Type 1} → statement M
 assemble-spec =
@@ -42,6 +43,7 @@ assemble-spec =
     (λ c κs. search needs)
     (λ c. search needs)
     returns-3
+    (λ c κs. search needs)
     build-requires
     (λ c. search needs)
     returns-4)

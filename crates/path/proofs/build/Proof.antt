@@ -9,25 +9,25 @@ use Rattle.path.proofs.build.Tie as tie
 
 is-frequent-requires : tie.Need-is-frequent-requires
 is-frequent-requires c κs =
-    (ases-fit _ (λ i. c .before .before .before .before .before .before .before .shared-slice-known .given i .fits) (accepted _ (c .before .before .before .before .before .before .before .before .pre .0 .ok)) _ (c .before .before .before .before .before .before .before .before .pre .1 .0) _ _ (c .before .before .before .before .put-front .ensures .0) (omega arith), omega arith)
+    (ases-fit _ (λ i. c .before .before .before .before .before .before .before .before .shared-slice-known .given i .fits) (accepted _ (c .before .before .before .before .before .before .before .before .before .pre .0 .ok)) _ (c .before .before .before .before .before .before .before .before .before .pre .1 .0 .edges) _ _ (c .before .before .before .before .put-front .ensures .0) (omega arith), omega arith)
 
 returns : tie.Need-returns
 returns c =
-    answer-loop _ (λ i. c .before .before .before .before .before .before .before .before .before .before .before .before .before .shared-slice-known .given i .fits) (accepted _ (c .before .before .before .before .before .before .before .before .before .before .before .before .before .before .pre .0 .ok)) _ (c .before .before .before .before .before .before .before .before .before .before .before .before .before .before .pre .1 .0) _ _ (c .before .before .before .before .before .before .before .before .before .before .put-front .ensures .0) (omega arith)
+    answer-loop _ (λ i. c .before .before .before .before .before .before .before .before .before .before .before .before .before .before .shared-slice-known .given i .fits) (accepted _ (c .before .before .before .before .before .before .before .before .before .before .before .before .before .before .before .pre .0 .ok)) _ (c .before .before .before .before .before .before .before .before .before .before .before .before .before .before .before .pre .1 .0 .edges) _ _ (c .before .before .before .before .before .before .before .before .before .before .put-front .ensures .0) (omega arith)
     _ (omega arith) _ (c .before .before .before .before .before .is-frequent .ensures) (c .before .before .before .before .if1 .taken) _ (c .before .before .zero .ensures)
 
 returns-2 : tie.Need-returns-2
 returns-2 c =
-    answer-bare _ (λ i. c .before .before .before .before .before .before .before .before .before .before .before .before .before .before .shared-slice-known .given i .fits) (accepted _ (c .before .before .before .before .before .before .before .before .before .before .before .before .before .before .before .pre .0 .ok)) _ (c .before .before .before .before .before .before .before .before .before .before .before .before .before .before .before .pre .1 .0) _ _ (c .before .before .before .before .before .before .before .before .before .before .before .put-front .ensures .0) (omega arith)
+    answer-bare _ (λ i. c .before .before .before .before .before .before .before .before .before .before .before .before .before .before .before .shared-slice-known .given i .fits) (accepted _ (c .before .before .before .before .before .before .before .before .before .before .before .before .before .before .before .before .pre .0 .ok)) _ (c .before .before .before .before .before .before .before .before .before .before .before .before .before .before .before .before .pre .1 .0 .edges) _ _ (c .before .before .before .before .before .before .before .before .before .before .before .put-front .ensures .0) (omega arith)
     _ (omega arith) _ (c .before .before .before .before .before .before .is-frequent .ensures) (c .before .before .before .before .before .if1 .left) (c .before .before .before .before .if2 .taken) _ (c .before .before .zero2 .ensures)
 
 put-path-requires : tie.Need-put-path-requires
 put-path-requires c κs =
-    (c .before .before .before .before .before .before .before .before .before .before .before .before .pre .0, (c .before .before .before .before .before .before .before .before .before .before .before .before .pre .1 .0, (c .before .before .before .before .before .before .before .before .put-front .ensures .0, (omega arith, (omega arith, omega arith)))))
+    (c .before .before .before .before .before .before .before .before .before .before .before .before .before .pre .0, (c .before .before .before .before .before .before .before .before .before .before .before .before .before .pre .1 .0, (c .before .before .before .before .before .before .before .before .put-front .ensures .0, (omega arith, (omega arith, omega arith)))))
 
 returns-3 : tie.Need-returns-3
 returns-3 c =
-    answer-path _ (λ i. c .before .before .before .before .before .before .before .before .before .before .before .before .before .before .shared-slice-known .given i .fits) (accepted _ (c .before .before .before .before .before .before .before .before .before .before .before .before .before .before .before .pre .0 .ok)) _ (c .before .before .before .before .before .before .before .before .before .before .before .before .before .before .before .pre .1 .0) _ _ (c .before .before .before .before .before .before .before .before .before .before .before .put-front .ensures .0) (omega arith)
+    answer-path _ (λ i. c .before .before .before .before .before .before .before .before .before .before .before .before .before .before .before .shared-slice-known .given i .fits) (accepted _ (c .before .before .before .before .before .before .before .before .before .before .before .before .before .before .before .before .pre .0 .ok)) _ (c .before .before .before .before .before .before .before .before .before .before .before .before .before .before .before .before .pre .1 .0 .edges) _ _ (c .before .before .before .before .before .before .before .before .before .before .before .put-front .ensures .0) (omega arith)
     _ (omega arith) _ (c .before .before .before .before .before .before .is-frequent .ensures) (c .before .before .before .before .before .if1 .left) (c .before .before .before .before .if2 .left) _ (c .before .before .put-path .ensures)
 
 pub build-spec : {M : Type 1} → statement M

@@ -5,12 +5,13 @@ use native.Mathlib.Omega.{arith}
 use mathlib.Core.Path.{_≡_, _∙_}
 use Rattle.path.specs.Parts.{mtusPassed}
 use Rattle.path.proofs.Walking.{hops-are, mtus-none, mtus-more, mtus-all}
+use Rattle.path.specs.Usable.{edgeBy}
 use borrow.Author.Needs.{needs}
 use Rattle.path.proofs.edge.mtu.Statement.{statement}
 use Rattle.path.proofs.edge.mtu.Tie as tie
 
 abbrev Inv-loop : tie.InvT-loop
-Inv-loop book table e x n hops y₀ j₀ y j = (y ≡ mtusPassed book e x j) × (j ≤ hops)
+Inv-loop book table e x n hops y₀ j₀ y j = (y ≡ mtusPassed book (edgeBy e) x j) × (j ≤ hops)
 
 abbrev μ-loop : tie.MeasureT-loop
 μ-loop book table e x n hops y₀ j₀ y j = hops - j

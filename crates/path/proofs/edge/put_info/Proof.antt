@@ -1,6 +1,5 @@
 -- `put_info` meets its contract.
 -- Assumes nothing.
-use native.Mathlib.Omega.{arith}
 use mathlib.Core.Path.{refl}
 use Rattle.path.proofs.Walking.{hops-are, time-read, info-wrote}
 use borrow.Author.Needs.{needs}

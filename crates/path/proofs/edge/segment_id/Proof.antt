@@ -5,12 +5,13 @@ use native.Mathlib.Omega.{arith}
 use mathlib.Core.Path.{_≡_}
 use Rattle.spec.specs.Assembly.{idBelow, segmentOf}
 use Rattle.path.proofs.Walking.{id-none, id-more, id-all, stop-all}
+use Rattle.path.specs.Usable.{edgeBy}
 use borrow.Author.Needs.{needs}
 use Rattle.path.proofs.edge.segment_id.Statement.{statement}
 use Rattle.path.proofs.edge.segment_id.Tie as tie
 
 abbrev Inv-loop : tie.InvT-loop
-Inv-loop book table e n stop id₀ i₀ id i = (id ≡ idBelow (segmentOf book e) i) × (i ≤ stop)
+Inv-loop book table e n stop id₀ i₀ id i = (id ≡ idBelow (segmentOf book (edgeBy e)) i) × (i ≤ stop)
 
 abbrev μ-loop : tie.MeasureT-loop
 μ-loop book table e n stop id₀ i₀ id i = stop - i

@@ -6,12 +6,13 @@ use mathlib.Core.Path.{_≡_, _∙_}
 use Rattle.path.specs.Parts.{unitsPassed}
 use Rattle.path.proofs.Standing.{entry-from}
 use Rattle.path.proofs.Walking.{hops-are, units-none, units-more, units-all}
+use Rattle.path.specs.Usable.{edgeBy}
 use borrow.Author.Needs.{needs}
 use Rattle.path.proofs.edge.units.Statement.{statement}
 use Rattle.path.proofs.edge.units.Tie as tie
 
 abbrev Inv-loop : tie.InvT-loop
-Inv-loop book table e n hops x₀ j₀ x j = (x ≡ unitsPassed book e j) × (j ≤ hops)
+Inv-loop book table e n hops x₀ j₀ x j = (x ≡ unitsPassed book (edgeBy e) j) × (j ≤ hops)
 
 abbrev μ-loop : tie.MeasureT-loop
 μ-loop book table e n hops x₀ j₀ x j = hops - j
@@ -31,7 +32,7 @@ units-at-requires c κs = (c .offset .ensures .0, c .offset .ensures .1)
 loop-again : tie.Need-loop-again Inv-loop μ-loop
 loop-again c = (
   rw (c .less .ensures, c .before .units-at .ensures)
-      (units-more _ _ _ _ _ (c .before .before .before .before .before .loop .inv .0) (c .before .before .before .entry-of .ensures .0 ∙ entry-from _ _ (c .before .before .before .before .before .before .before .before .before .pre .1) _ _ (c .before .before .before .before .before .before .before .entry-count .ensures .0))),
+      (units-more _ _ _ _ _ (c .before .before .before .before .before .loop .inv .0) (c .before .before .before .entry-of .ensures .0 ∙ entry-from _ _ _ _ (c .before .before .before .before .before .before .before .entry-count .ensures .0))),
   omega arith,
 )
 

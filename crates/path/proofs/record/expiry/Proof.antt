@@ -1,54 +1,54 @@
--- `expiry` meets its contract.
+-- `expiry` meets its contract. The invariant of its loop: y is the soonest expiry of the first x edges.
 -- Assumes nothing.
-use Rattle.path.proofs.Chaining.{of-one, of-two, of-three, soonest-none, soonest-one, soonest-two, soonest-three}
+use Prim.Native.Nat.{_-_, _≤_}
+use native.Mathlib.Omega.{arith}
+use mathlib.Core.Path.{_≡_}
+use mathlib.Core.List.{map}
+use Rattle.spec.specs.Limits.{maxTime}
+use Rattle.spec.specs.Assembly.{least, expiryOn}
+use Rattle.path.specs.Whole.{edgesIn}
+use Rattle.path.proofs.Chaining.{edge-fits, edge-usable, soonest-none, soonest-more, soonest-done}
 use borrow.Author.Needs.{needs}
 use Rattle.path.proofs.record.expiry.Statement.{statement}
 use Rattle.path.proofs.record.expiry.Tie as tie
 
-sooner-requires : tie.Need-sooner-requires
-sooner-requires c κs = (c .before .before .before .before .pre .0, of-one _ _ (c .before .before .before .before .pre .1) (c .before .chain .given .1))
+abbrev Inv-loop : tie.InvT-loop
+Inv-loop book table given count y₀ x₀ y x = (y ≡ least maxTime (map (expiryOn book) (edgesIn given x))) × (x ≤ count)
 
-sooner-requires-2 : tie.Need-sooner-requires-2
-sooner-requires-2 c κs = (c .before .before .before .before .pre .0, of-two _ _ (c .before .before .before .before .pre .1) (c .before .chain2 .given .1) .0)
+abbrev μ-loop : tie.MeasureT-loop
+μ-loop book table given count y₀ x₀ y x = count - x
 
-sooner-requires-3 : tie.Need-sooner-requires-3
-sooner-requires-3 c κs = (c .before .before .before .before .before .pre .0, of-two _ _ (c .before .before .before .before .before .pre .1) (c .before .before .chain2 .given .1) .1)
+loop-holds : tie.Need-loop-holds Inv-loop μ-loop
+loop-holds c = (soonest-none _ _ _, omega arith)
 
-sooner-requires-4 : tie.Need-sooner-requires-4
-sooner-requires-4 c κs = (c .before .before .before .before .pre .0, of-three _ _ (c .before .before .before .before .pre .1) (c .before .chain3 .given .1) .0)
+edge-in-requires : tie.Need-edge-in-requires Inv-loop μ-loop
+edge-in-requires c κs = edge-fits _ _ _ (c .before .before .before .before .pre .1) _ (c .loop-test .taken)
 
-sooner-requires-5 : tie.Need-sooner-requires-5
-sooner-requires-5 c κs = (c .before .before .before .before .before .pre .0, of-three _ _ (c .before .before .before .before .before .pre .1) (c .before .before .chain3 .given .1) .1)
+sooner-requires : tie.Need-sooner-requires Inv-loop μ-loop
+sooner-requires c κs = (c .before .before .before .before .before .pre .0, edge-usable _ _ _ (c .before .before .before .before .before .pre .1) _ (c .before .loop-test .taken) _ (c .edge-in .ensures))
 
-sooner-requires-6 : tie.Need-sooner-requires-6
-sooner-requires-6 c κs = (c .before .before .before .before .before .before .pre .0, of-three _ _ (c .before .before .before .before .before .before .pre .1) (c .before .before .before .chain3 .given .1) .2)
+add-x : tie.Need-add-x Inv-loop μ-loop
+add-x c = search needs
 
-returns : tie.Need-returns
-returns c = soonest-one _ _ (c .before .before .chain .given .1) _ _ (c .sooner .ensures)
+loop-less : tie.Need-loop-less Inv-loop μ-loop
+loop-less c = search needs
 
-returns-2 : tie.Need-returns-2
-returns-2 c = soonest-two _ _ (c .before .before .before .chain2 .given .1) _ _ _ (c .before .sooner2 .ensures) (c .sooner3 .ensures)
+loop-again : tie.Need-loop-again Inv-loop μ-loop
+loop-again c = (soonest-more _ _ _ _ _ _ _ (c .before .edge-in .ensures) (c .before .before .before .loop .inv .0) (c .sooner .ensures), omega arith)
 
-returns-3 : tie.Need-returns-3
-returns-3 c = soonest-three _ _ (c .before .before .before .before .chain3 .given .1) _ _ _ _ (c .before .before .sooner4 .ensures) (c .before .sooner5 .ensures) (c .sooner6 .ensures)
-
-returns-4 : tie.Need-returns-4
-returns-4 c = soonest-none _ (c .before .before .args .chain) (c .match .keys4) _
+returns : tie.Need-returns Inv-loop μ-loop
+returns c = soonest-done _ _ _ _ _ _ (c .before .loop .inv .1) (c .loop-test .left) (c .before .loop .inv .0)
 
 pub expiry-spec : {M : Type 1} → statement M
 expiry-spec =
     tie.close
     (tie.spec
-    (λ c. search needs)
+    Inv-loop
+    μ-loop
+    loop-holds
+    edge-in-requires
     sooner-requires
-    (λ c. search needs)
-    sooner-requires-2
-    sooner-requires-3
-    (λ c. search needs)
-    sooner-requires-4
-    sooner-requires-5
-    sooner-requires-6
-    returns
-    returns-2
-    returns-3
-    returns-4)
+    add-x
+    loop-less
+    loop-again
+    returns)

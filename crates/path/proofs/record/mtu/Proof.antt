@@ -1,54 +1,54 @@
--- `mtu` meets its contract.
+-- `mtu` meets its contract. The invariant of its loop: y is the least MTU of the first x edges.
 -- Assumes nothing.
-use Rattle.path.proofs.Chaining.{of-one, of-two, of-three, least-none, least-one-edge, least-two-edges, least-three-edges}
+use Prim.Native.Nat.{_-_, _≤_}
+use native.Mathlib.Omega.{arith}
+use mathlib.Core.Path.{_≡_}
+use mathlib.Core.List.{flatMap}
+use Rattle.spec.specs.Limits.{maxMtu}
+use Rattle.spec.specs.Assembly.{least, mtusOn}
+use Rattle.path.specs.Whole.{edgesIn}
+use Rattle.path.proofs.Chaining.{edge-fits, edge-usable, least-none, least-more, least-done}
 use borrow.Author.Needs.{needs}
 use Rattle.path.proofs.record.mtu.Statement.{statement}
 use Rattle.path.proofs.record.mtu.Tie as tie
 
-mtu-requires : tie.Need-mtu-requires
-mtu-requires c κs = (c .before .before .before .before .pre .0, of-one _ _ (c .before .before .before .before .pre .1) (c .before .chain .given .1))
+abbrev Inv-loop : tie.InvT-loop
+Inv-loop book table given count y₀ x₀ y x = (y ≡ least maxMtu (flatMap (mtusOn book) (edgesIn given x))) × (x ≤ count)
 
-mtu-requires-2 : tie.Need-mtu-requires-2
-mtu-requires-2 c κs = (c .before .before .before .before .pre .0, of-two _ _ (c .before .before .before .before .pre .1) (c .before .chain2 .given .1) .0)
+abbrev μ-loop : tie.MeasureT-loop
+μ-loop book table given count y₀ x₀ y x = count - x
 
-mtu-requires-3 : tie.Need-mtu-requires-3
-mtu-requires-3 c κs = (c .before .before .before .before .before .pre .0, of-two _ _ (c .before .before .before .before .before .pre .1) (c .before .before .chain2 .given .1) .1)
+loop-holds : tie.Need-loop-holds Inv-loop μ-loop
+loop-holds c = (least-none _ _ _, omega arith)
 
-mtu-requires-4 : tie.Need-mtu-requires-4
-mtu-requires-4 c κs = (c .before .before .before .before .pre .0, of-three _ _ (c .before .before .before .before .pre .1) (c .before .chain3 .given .1) .0)
+edge-in-requires : tie.Need-edge-in-requires Inv-loop μ-loop
+edge-in-requires c κs = edge-fits _ _ _ (c .before .before .before .before .pre .1) _ (c .loop-test .taken)
 
-mtu-requires-5 : tie.Need-mtu-requires-5
-mtu-requires-5 c κs = (c .before .before .before .before .before .pre .0, of-three _ _ (c .before .before .before .before .before .pre .1) (c .before .before .chain3 .given .1) .1)
+mtu-requires : tie.Need-mtu-requires Inv-loop μ-loop
+mtu-requires c κs = (c .before .before .before .before .before .pre .0, edge-usable _ _ _ (c .before .before .before .before .before .pre .1) _ (c .before .loop-test .taken) _ (c .edge-in .ensures))
 
-mtu-requires-6 : tie.Need-mtu-requires-6
-mtu-requires-6 c κs = (c .before .before .before .before .before .before .pre .0, of-three _ _ (c .before .before .before .before .before .before .pre .1) (c .before .before .before .chain3 .given .1) .2)
+add-x : tie.Need-add-x Inv-loop μ-loop
+add-x c = search needs
 
-returns : tie.Need-returns
-returns c = least-one-edge _ _ (c .before .before .chain .given .1) _ _ (c .mtu .ensures)
+loop-less : tie.Need-loop-less Inv-loop μ-loop
+loop-less c = search needs
 
-returns-2 : tie.Need-returns-2
-returns-2 c = least-two-edges _ _ (c .before .before .before .chain2 .given .1) _ _ _ (c .before .mtu2 .ensures) (c .mtu3 .ensures)
+loop-again : tie.Need-loop-again Inv-loop μ-loop
+loop-again c = (least-more _ _ _ _ _ _ _ (c .before .edge-in .ensures) (c .before .before .before .loop .inv .0) (c .mtu .ensures), omega arith)
 
-returns-3 : tie.Need-returns-3
-returns-3 c = least-three-edges _ _ (c .before .before .before .before .chain3 .given .1) _ _ _ _ (c .before .before .mtu4 .ensures) (c .before .mtu5 .ensures) (c .mtu6 .ensures)
-
-returns-4 : tie.Need-returns-4
-returns-4 c = least-none _ (c .before .before .args .chain) (c .match .keys4) _
+returns : tie.Need-returns Inv-loop μ-loop
+returns c = least-done _ _ _ _ _ _ (c .before .loop .inv .1) (c .loop-test .left) (c .before .loop .inv .0)
 
 pub mtu-spec : {M : Type 1} → statement M
 mtu-spec =
     tie.close
     (tie.spec
-    (λ c. search needs)
+    Inv-loop
+    μ-loop
+    loop-holds
+    edge-in-requires
     mtu-requires
-    (λ c. search needs)
-    mtu-requires-2
-    mtu-requires-3
-    (λ c. search needs)
-    mtu-requires-4
-    mtu-requires-5
-    mtu-requires-6
-    returns
-    returns-2
-    returns-3
-    returns-4)
+    add-x
+    loop-less
+    loop-again
+    returns)

@@ -1,58 +1,60 @@
--- `put_infos` meets its contract.
+-- `put_infos` meets its contract. The invariant of its loop: the infos of the first x edges are written.
 -- Assumes nothing.
+use Prim.Native.Nat.{_+_, _-_, _*_, _≤_}
 use native.Mathlib.Omega.{arith}
-use Rattle.path.proofs.Chaining.{of-one, of-two, of-three, all-none, all-one, all-two, all-three}
+use mathlib.Core.Path.{_≡_, refl}
+use mathlib.Core.List.{flatMap}
+use lib.ListN.{length}
+use Rattle.spec.specs.Limits.{infoSize}
+use Rattle.path.specs.Places.{Wrote}
+use Rattle.path.specs.Parts.{infoBytes}
+use Rattle.path.specs.Whole.{edgesIn}
+use Rattle.path.proofs.Chaining.{few-edges, edge-fits, edge-usable, all-none, all-more, all-done}
 use borrow.Author.Needs.{needs}
 use Rattle.path.proofs.record.put_infos.Statement.{statement}
 use Rattle.path.proofs.record.put_infos.Tie as tie
 
-put-info-requires : tie.Need-put-info-requires
-put-info-requires c κs = (c .before .before .before .before .before .before .pre .0, (of-one _ _ (c .before .before .before .before .before .before .pre .1 .0) (c .before .before .chain .given .1), omega arith))
+abbrev Inv-loop : tie.InvT-loop
+Inv-loop book table given count out₀ at to₀ x₀ out to x = Wrote out₀ at (flatMap (infoBytes book) (edgesIn given x)) out to × (x ≤ count) × (to ≤ at + infoSize * x) × (length out ≡ length out₀)
 
-put-info-requires-2 : tie.Need-put-info-requires-2
-put-info-requires-2 c κs = (c .before .before .before .before .before .before .pre .0, (of-two _ _ (c .before .before .before .before .before .before .pre .1 .0) (c .before .before .chain2 .given .1) .0, omega arith))
+abbrev μ-loop : tie.MeasureT-loop
+μ-loop book table given count out₀ at to₀ x₀ out to x = count - x
 
-put-info-requires-3 : tie.Need-put-info-requires-3
-put-info-requires-3 c κs = (c .before .before .before .before .before .before .before .before .before .before .pre .0, (of-two _ _ (c .before .before .before .before .before .before .before .before .before .before .pre .1 .0) (c .before .before .before .before .before .before .chain2 .given .1) .1, omega arith))
+loop-holds : tie.Need-loop-holds Inv-loop μ-loop
+loop-holds c = (all-none _ _ _ _, omega arith, omega arith, refl)
 
-put-info-requires-4 : tie.Need-put-info-requires-4
-put-info-requires-4 c κs = (c .before .before .before .before .before .before .pre .0, (of-three _ _ (c .before .before .before .before .before .before .pre .1 .0) (c .before .before .chain3 .given .1) .0, omega arith))
+edge-in-requires : tie.Need-edge-in-requires Inv-loop μ-loop
+edge-in-requires c κs = edge-fits _ _ _ (c .before .before .before .before .before .pre .1 .0) _ (c .loop-test .taken)
 
-put-info-requires-5 : tie.Need-put-info-requires-5
-put-info-requires-5 c κs = (c .before .before .before .before .before .before .before .before .before .before .pre .0, (of-three _ _ (c .before .before .before .before .before .before .before .before .before .before .pre .1 .0) (c .before .before .before .before .before .before .chain3 .given .1) .1, omega arith))
+put-info-requires : tie.Need-put-info-requires Inv-loop μ-loop
+put-info-requires c κs = (c .before .before .before .before .before .before .before .pre .0, (edge-usable _ _ _ (c .before .before .before .before .before .before .before .pre .1 .0) _ (c .before .before .loop-test .taken) _ (c .before .edge-in .ensures), omega (arith, few-edges _ _ _ (c .before .before .before .before .before .before .before .pre .1 .0))))
 
-put-info-requires-6 : tie.Need-put-info-requires-6
-put-info-requires-6 c κs = (c .before .before .before .before .before .before .before .before .before .before .before .before .before .before .pre .0, (of-three _ _ (c .before .before .before .before .before .before .before .before .before .before .before .before .before .before .pre .1 .0) (c .before .before .before .before .before .before .before .before .before .before .chain3 .given .1) .2, omega arith))
+add-x : tie.Need-add-x Inv-loop μ-loop
+add-x c = search needs
 
-returns : tie.Need-returns
-returns c = (all-one _ _ (c .before .before .before .before .before .chain .given .1) (c .before .before .put-info .ensures .0), omega arith)
+loop-less : tie.Need-loop-less Inv-loop μ-loop
+loop-less c = search needs
 
-returns-2 : tie.Need-returns-2
-returns-2 c = (all-two _ _ (c .before .before .before .before .before .before .before .before .before .chain2 .given .1) (c .before .before .before .before .before .before .put-info2 .ensures .0) (c .before .before .put-info3 .ensures .0), omega arith)
+loop-again : tie.Need-loop-again Inv-loop μ-loop
+loop-again c = (all-more _ _ _ _ (c .before .before .before .before .edge-in .ensures) (c .before .before .before .before .before .before .loop .inv .0) (c .before .before .put-info .ensures .0), omega arith, omega arith, omega arith)
 
-returns-3 : tie.Need-returns-3
-returns-3 c = (all-three _ _ (c .before .before .before .before .before .before .before .before .before .before .before .before .before .chain3 .given .1) (c .before .before .before .before .before .before .before .before .before .before .put-info4 .ensures .0) (c .before .before .before .before .before .before .put-info5 .ensures .0) (c .before .before .put-info6 .ensures .0), omega arith)
+same-length : tie.Need-same-length Inv-loop μ-loop
+same-length c = c .before .loop .inv .3
 
-returns-4 : tie.Need-returns-4
-returns-4 c = (all-none _ (c .before .before .before .args .chain) (c .match .keys4) _ _, omega arith)
+returns : tie.Need-returns Inv-loop μ-loop
+returns c = (all-done _ _ _ _ (c .before .loop .inv .1) (c .loop-test .left) (c .before .loop .inv .0), omega (arith, few-edges _ _ _ (c .before .before .before .before .before .pre .1 .0)))
 
 pub put-infos-spec : {M : Type 1} → statement M
 put-infos-spec =
     tie.close
     (tie.spec
-    (λ c. search needs)
+    Inv-loop
+    μ-loop
+    loop-holds
+    edge-in-requires
     put-info-requires
-    (λ c. search needs)
-    put-info-requires-2
-    put-info-requires-3
-    (λ c. search needs)
-    put-info-requires-4
-    put-info-requires-5
-    put-info-requires-6
-    (λ c. search needs)
-    returns
-    (λ c. search needs)
-    returns-2
-    (λ c. search needs)
-    returns-3
-    returns-4)
+    add-x
+    loop-less
+    loop-again
+    same-length
+    returns)
