@@ -1,9 +1,11 @@
 #!/usr/bin/env python3
 """Joins the bench cases, answers.bin and refusals.bin to what crate stored is run on (README.md).
 
-    join.py        writes crates/stored/stdin and crates/stored/stdout
+    join.py            writes crates/stored/stdin and crates/stored/stdout
+    join.py --check    says whether they are what it would write
 """
 import os
+import sys
 
 import bench
 
@@ -51,11 +53,20 @@ def main():
     parts = bench.checked()
     parts["answers of the Rust"] = list(Reader("answers.bin").cases(answers_rest, 1))
     parts["refusals"] = list(Reader("refusals.bin").cases(refusals_rest, 2))
-    with open(os.path.join(CRATE, "stdin"), "wb") as f, open(os.path.join(CRATE, "stdout"), "w") as g:
-        for label, cases in parts.items():
-            f.write(bytes([0, len(label)]) + label.encode() + b"".join(cases))
-            g.write(f"{label}: {len(cases)} cases, 0 differ\n")
-    print(f"{len(parts)} labels, {sum(map(len, parts.values()))} cases")
+    files = {
+        "stdin": b"".join(bytes([0, len(label)]) + label.encode() + b"".join(cases) for label, cases in parts.items()),
+        "stdout": "".join(f"{label}: {len(cases)} cases, 0 differ\n" for label, cases in parts.items()).encode(),
+    }
+    for name, data in files.items():
+        path = os.path.join(CRATE, name)
+        if sys.argv[1:] == ["--check"]:
+            with open(path, "rb") as f:
+                if f.read() != data:
+                    sys.exit(f"crates/stored/{name} is not what tests/stored/join.py writes")
+        else:
+            with open(path, "wb") as f:
+                f.write(data)
+    print(f"stored: {len(parts)} labels, {sum(map(len, parts.values()))} cases")
 
 
 if __name__ == "__main__":
