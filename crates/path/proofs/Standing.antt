@@ -162,13 +162,20 @@ module _ (b : List ℕ) (e : Edge) (m at : ℕ) (here : Here b e m at) where
     unfolding peerEntryAt
     link-units = sym (ap (λ (x : HopField). x .units) link-hop)
 
-    pub link-ingress : be16 b (linkOffset e at + 13) ≡ hopOf (segmentOf b e) e m .ingress
+    link-ingress : be16 b (linkOffset e at + 13) ≡ hopOf (segmentOf b e) e m .ingress
     unfolding peerEntryAt
     link-ingress = sym (ap (λ (x : HopField). x .ingress) link-hop)
 
-    pub link-egress : be16 b (linkOffset e at + 15) ≡ hopOf (segmentOf b e) e m .egress
+    link-egress : be16 b (linkOffset e at + 15) ≡ hopOf (segmentOf b e) e m .egress
     unfolding peerEntryAt
     link-egress = sym (ap (λ (x : HopField). x .egress) link-hop)
+
+    pub link-ids : (x : ℕ) → x ≡ linkOffset e at
+        → (be16 b (x + 13) ≡ hopOf (segmentOf b e) e m .ingress) × (be16 b (x + 13 + 2) ≡ hopOf (segmentOf b e) e m .egress) × (x + 13 + 4 ≤ length b)
+    link-ids x p =
+        let f : x + 13 ≡ linkOffset e at + 13 = omega arith in
+        let g : x + 13 + 2 ≡ linkOffset e at + 15 = omega arith in
+        (ap (be16 b) f ∙ link-ingress, ap (be16 b) g ∙ link-egress, omega (arith, here .link q .room))
 
     pub link-mtu-read : be16 b (linkOffset e at + 10) ≡ peerOf (segmentOf b e) m (e .peer - 1) .mtu
     unfolding peerEntryAt
@@ -183,10 +190,15 @@ module _ (b : List ℕ) (e : Edge) (m at : ℕ) (here : Here b e m at) where
     unfolding asEntryAt
     own-units = sym (ap (λ (x : HopField). x .units) own-hop)
 
-    pub own-ingress : be16 b (at + 14) ≡ hopOf (segmentOf b e) e m .ingress
+    own-ingress : be16 b (at + 14) ≡ hopOf (segmentOf b e) e m .ingress
     unfolding asEntryAt
     own-ingress = sym (ap (λ (x : HopField). x .ingress) own-hop)
 
-    pub own-egress : be16 b (at + 16) ≡ hopOf (segmentOf b e) e m .egress
+    own-egress : be16 b (at + 16) ≡ hopOf (segmentOf b e) e m .egress
     unfolding asEntryAt
     own-egress = sym (ap (λ (x : HopField). x .egress) own-hop)
+
+    pub own-ids : (be16 b (at + 14) ≡ hopOf (segmentOf b e) e m .ingress) × (be16 b (at + 14 + 2) ≡ hopOf (segmentOf b e) e m .egress) × (at + 14 + 4 ≤ length b)
+    own-ids =
+        let g : at + 14 + 2 ≡ at + 16 = omega arith in
+        (own-ingress, ap (be16 b) g ∙ own-egress, omega (arith, here .room))

@@ -4,6 +4,7 @@ ghost use mathlib.Core.List.{_++_};
 ghost use Prim.Native.Nat.{_+_, _^_, _≤_, _<_, min};
 ghost use lib.ListN.{length, take, drop};
 ghost use Rattle.spec.specs.Limits.{entrySize, hopSize};
+ghost use Rattle.spec.specs.Octets.{be16};
 ghost use Rattle.spec.specs.Book.{isdAsnAt, asEntryAt};
 ghost use Rattle.spec.specs.Edges.{asOf};
 ghost use Rattle.output.specs.Write.{written};
@@ -40,26 +41,16 @@ pub(crate) fn units_at(book: &[u8], e: SolutionEdge, m: usize, at: usize) -> u8
     book[at + 18]
 }
 
-fn ingress_at(book: &[u8], e: SolutionEdge, m: usize, at: usize) -> u16
+// Where the two interface ids of the hop at entry m stand, ingress before egress.
+fn ids_offset(book: &[u8], e: SolutionEdge, m: usize, at: usize) -> usize
     requires { ⌜ Here (now book) (edgeBy e) m at ⌝ }
     requires { ⌜ at < 2 ^ 16 ⌝ }
-    ensures { λ r. ⌜ r ≡ hopOf (segmentOf (now (book .entry)) (edgeBy e)) (edgeBy e) m .ingress ⌝ }
+    ensures { λ r. ⌜ (be16 (now (book .entry)) r ≡ hopOf (segmentOf (now (book .entry)) (edgeBy e)) (edgeBy e) m .ingress) × (be16 (now (book .entry)) (r + 2) ≡ hopOf (segmentOf (now (book .entry)) (edgeBy e)) (edgeBy e) m .egress) × (r + 4 ≤ length (now (book .entry))) ⌝ }
 {
     if places::is_peer_hop(e, m) {
-        return within::read16(book, places::link_offset(e, at) + 13);
+        return places::link_offset(e, at) + 13;
     }
-    within::read16(book, at + 14)
-}
-
-fn egress_at(book: &[u8], e: SolutionEdge, m: usize, at: usize) -> u16
-    requires { ⌜ Here (now book) (edgeBy e) m at ⌝ }
-    requires { ⌜ at < 2 ^ 16 ⌝ }
-    ensures { λ r. ⌜ r ≡ hopOf (segmentOf (now (book .entry)) (edgeBy e)) (edgeBy e) m .egress ⌝ }
-{
-    if places::is_peer_hop(e, m) {
-        return within::read16(book, places::link_offset(e, at) + 15);
-    }
-    within::read16(book, at + 16)
+    at + 14
 }
 
 // An entry's own hop: in the book its units stand after the interfaces. It is put together in a local one, which the compiler moves as a whole.
@@ -127,8 +118,9 @@ fn shown(book: &[u8], e: SolutionEdge, m: usize, at: usize) -> ShownIds
     requires { ⌜ at < 2 ^ 16 ⌝ }
     ensures { λ r. ⌜ interfacesHere (now (book .entry)) (edgeBy e) m ≡ shownAs (asOf (segmentOf (now (book .entry)) (edgeBy e)) m) (r .first) ++ shownAs (asOf (segmentOf (now (book .entry)) (edgeBy e)) m) (r .second) ⌝ }
 {
-    let egress = egress_at(book, e, m, at);
-    let ingress = shown_ingress(e, m, ingress_at(book, e, m, at));
+    let from = ids_offset(book, e, m, at);
+    let ingress = shown_ingress(e, m, within::read16(book, from));
+    let egress = within::read16(book, from + 2);
     if e.construction {
         return ShownIds {
             first: ingress,
