@@ -15,7 +15,6 @@ ghost use Rattle.path.specs.Places.{Here, Wrote};
 ghost use Rattle.path.specs.Parts.{Hops, Ases, Ids, linkMtus, ingressShown, shownAs, asIf, idIf, interfacesHere, entryBytes};
 use crate::places;
 use crate::within;
-use spec::IsdAsn;
 use spec::SolutionEdge;
 
 // The bytes of a hop in a path.
@@ -133,14 +132,17 @@ fn shown(book: &[u8], e: SolutionEdge, m: usize, at: usize) -> ShownIds
     }
 }
 
-fn put_as(out: &mut [u8], to: usize, local: IsdAsn, id: u16) -> usize
-    requires { ⌜ to + 8 ≤ length (now out) ⌝ }
-    ensures { λ r. ⌜ Wrote (now (out .entry)) to (asIf local id) (now (out .exit)) r × (r ≤ to + 8) ⌝ }
+// The AS at an offset of the book, if the id is shown. It stands there as in a path, and goes by way of a local one.
+fn put_as(book: &[u8], at: usize, out: &mut [u8], to: usize, id: u16) -> usize
+    requires { ⌜ (at + 8 ≤ length (now book)) × (to + 8 ≤ length (now out)) ⌝ }
+    ensures { λ r. ⌜ Wrote (now (out .entry)) to (asIf (isdAsnAt (now (book .entry)) at) id) (now (out .exit)) r × (r ≤ to + 8) ⌝ }
 {
     if id == 0 {
         return to;
     }
-    within::put64(out, to, local.0);
+    let mut r = [0u8; 8];
+    within::copy(book, at, &mut r, 0, 8);
+    within::copy(&r, 0, out, to, 8);
     to + 8
 }
 
@@ -153,13 +155,6 @@ fn put_id(out: &mut [u8], to: usize, id: u16) -> usize
     }
     within::put16(out, to, id);
     to + 2
-}
-
-fn local_at(book: &[u8], at: usize) -> IsdAsn
-    requires { ⌜ at + entrySize ≤ length (now book) ⌝ }
-    ensures { λ r. ⌜ r ≡ isdAsnAt (now (book .entry)) at ⌝ }
-{
-    IsdAsn(within::read64(book, at))
 }
 
 pub(crate) fn put_ases(
@@ -176,9 +171,8 @@ pub(crate) fn put_ases(
     ensures { λ r. ⌜ Wrote (now (out .entry)) to (entryBytes (now (book .entry)) (edgeBy e) Ases m) (now (out .exit)) r × (r ≤ to + 16) ⌝ }
 {
     let shown = shown(book, e, m, at);
-    let local = local_at(book, at);
-    let next = put_as(out, to, local, shown.first);
-    put_as(out, next, local, shown.second)
+    let next = put_as(book, at, out, to, shown.first);
+    put_as(book, at, out, next, shown.second)
 }
 
 pub(crate) fn put_ids(
