@@ -16,7 +16,7 @@ use Rattle.spec.specs.declared.Verdict.the-variants.{Accepted}
 use Rattle.spec.specs.Limits.{headSize, maxEntries, maxSegments}
 use Rattle.spec.specs.Basics.{if_then_else_}
 use Rattle.spec.specs.Octets.{be16, be32}
-use Rattle.spec.specs.Book.{verdict, entryCountAt, bodyOffset, entryOffset, peerCount, isdAsnAt, asEntryAt, peerEntryAt, segmentAt}
+use Rattle.spec.specs.Book.{verdict, headOffset, timestampAt, idAt, entryCountAt, bodyOffset, entryOffset, peerCount, isdAsnAt, asEntryAt, peerEntryAt, segmentAt}
 use Rattle.spec.specs.Edges.{entryOf, asOf, peerOf}
 use Rattle.spec.specs.Assembly.{isPeerHop, isPeerEdge, atShortcut, hopOf, segmentOf}
 use Rattle.spec.proofs.Membership.{not-both}
@@ -125,6 +125,24 @@ module _ (b : List ℕ) (ok : verdict b ≡ Accepted) (e : Edge) (u : Usable b e
 
   pub count-few : getD b (15 + headSize * e .position) 0 ≤ maxEntries
   count-few = omega (arith, count-byte, count-most b (accepted b ok) e u)
+
+  pub time-within : 8 + headSize * e .position + 4 ≤ length b
+  time-within = omega (arith, count-within)
+
+  pub id-within : 12 + headSize * e .position + 2 ≤ length b
+  id-within = omega (arith, count-within)
+
+-- what a head says
+module _ (b : List ℕ) (e : Edge) where
+  pub time-read : be32 b (8 + headSize * e .position) ≡ segmentOf b e .timestamp
+  unfolding segmentOf segmentAt timestampAt headOffset
+  time-read = refl
+
+  pub id-read : be16 b (12 + headSize * e .position) ≡ segmentOf b e .id
+  unfolding segmentOf segmentAt idAt headOffset
+  id-read =
+      let p : 12 + headSize * e .position ≡ 8 + headSize * e .position + 4 = omega arith in
+      ap (be16 b) p
 
 -- the entry of a hop
 pub entry-from : (b : List ℕ) (e : Edge) (n j : ℕ) → n ≡ length (segmentOf b e .entries) → entryFrom e n j ≡ entryFrom e (length (segmentOf b e .entries)) j
