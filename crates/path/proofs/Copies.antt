@@ -1,6 +1,6 @@
 -- Bytes copied from the book into a path.
 -- Assumes nothing.
-use Prim.Native.Nat.{ℕ, suc, _+_, _≤_, _<_}
+use Prim.Native.Nat.{ℕ, suc, _+_, _*_, _/_, _%_, _^_, _≤_, _<_}
 use native.Mathlib.Nat.{add-assoc, le-antisymm}
 use native.Mathlib.Numerals.{add-one}
 use native.Mathlib.Omega.{arith}
@@ -9,9 +9,10 @@ use mathlib.Core.List.{List, [], _∷_, _++_, append-nil}
 use lib.ListN.{length, getD, take, drop, set, length-append, length-drop}
 use lib.Seq.{drop-cons, drop-drop, drop-length, take-add, take-all, length-take-le}
 use Rattle.spec.specs.Limits.{entrySize, peerSize, hopSize}
-use Rattle.spec.specs.Octets.{Bytes, be16, octets2}
-use Rattle.spec.specs.Book.{macAt, asEntryAt, peerEntryAt}
+use Rattle.spec.specs.Octets.{Bytes, be16, be32, be64, octets2, octets4, octets8}
+use Rattle.spec.specs.Book.{isdAsnAt, macAt, asEntryAt, peerEntryAt}
 use Rattle.spec.specs.Records.{hopOctets}
+use Rattle.spec.proofs.BookLaws.{be16-lt, be32-lt}
 use Rattle.output.specs.Write.{written}
 use Rattle.output.proofs.Writing.{copied, written-one, written-next, written-pair}
 
@@ -48,6 +49,30 @@ module _ (b : List ℕ) (bytes : Bytes b) where
   four : (i : ℕ) → i + 4 ≤ length b → take 4 (drop i b) ≡ octets2 (be16 b i) ++ octets2 (be16 b (i + 2))
   four i h = split b 2 2 i ∙ ap₂ (λ x y. x ++ y) (pair i (omega arith)) (pair (i + 2) (omega arith))
 
+  four-back : (i : ℕ) → octets4 (be32 b i) ≡ octets2 (be16 b i) ++ octets2 (be16 b (i + 2))
+  unfolding octets4 be32
+  four-back i =
+      let q = be16-lt b bytes (i + 2) in
+      let x : ℕ = be16 b i * 2 ^ 16 + be16 b (i + 2) in
+      let e : x / 2 ^ 16 ≡ be16 b i = omega arith in
+      let f : x % 2 ^ 16 ≡ be16 b (i + 2) = omega arith in
+      ap₂ (λ y z. octets2 y ++ octets2 z) e f
+
+  eight-back : (i : ℕ) → octets8 (be64 b i) ≡ octets4 (be32 b i) ++ octets4 (be32 b (i + 4))
+  unfolding octets8 be64
+  eight-back i =
+      let q = be32-lt b bytes (i + 4) in
+      let x : ℕ = be32 b i * 2 ^ 32 + be32 b (i + 4) in
+      let e : x / 2 ^ 32 ≡ be32 b i = omega arith in
+      let f : x % 2 ^ 32 ≡ be32 b (i + 4) = omega arith in
+      ap₂ (λ y z. octets4 y ++ octets4 z) e f
+
+  eight : (i : ℕ) → i + 8 ≤ length b → take 8 (drop i b) ≡ octets8 (be64 b i)
+  eight i h =
+      split b 4 4 i
+      ∙ ap₂ (λ x y. x ++ y) (four i (omega arith) ∙ sym (four-back i)) (four (i + 4) (omega arith) ∙ sym (four-back (i + 4)))
+      ∙ sym (eight-back i)
+
   -- of a peer the bytes of a hop stand in one piece
   pub link-copied : (q : ℕ) → q + peerSize ≤ length b → take 11 (drop (q + 12) b) ≡ hopOctets (peerEntryAt b q .hop)
   unfolding hopOctets peerEntryAt octets2
@@ -66,27 +91,32 @@ module _ (b : List ℕ) (bytes : Bytes b) where
       ap₂ (λ x y. ((getD b (at + 18) 0 ∷ []) ++ x) ++ y) (four (at + 14) (omega arith)) (six b (at + 19) (omega arith))
       ∙ simp add-assoc
 
--- ---- by way of a local hop
+-- ---- by way of a local piece
 
 -- a write over all there is
 over : (z xs : List ℕ) → length xs ≡ length z → written z 0 xs ≡ xs
 over z xs l = written-next [] z 0 xs refl (omega arith) ∙ ap (λ n. xs ++ drop n z) l ∙ ap (λ t. xs ++ t) (drop-length z) ∙ append-nil xs
 
--- the local hop copied
-passed-on : (z xs r d : List ℕ) (to : ℕ) (d′ : List ℕ) → length z ≡ hopSize → length xs ≡ hopSize → r ≡ written z 0 xs → d′ ≡ written d to (take hopSize (drop 0 r))
+-- the local piece copied
+passed-on : (n : ℕ) (z xs r d : List ℕ) (to : ℕ) (d′ : List ℕ) → length z ≡ n → length xs ≡ n → r ≡ written z 0 xs → d′ ≡ written d to (take n (drop 0 r))
     → d′ ≡ written d to xs
-passed-on z xs r d to d′ lz lx q p =
-    p ∙ ap (λ t. written d to (take hopSize (drop 0 t))) (q ∙ over z xs (omega arith)) ∙ ap (written d to) (take-all hopSize xs (omega arith))
+passed-on n z xs r d to d′ lz lx q p =
+    p ∙ ap (λ t. written d to (take n (drop 0 t))) (q ∙ over z xs (omega arith)) ∙ ap (written d to) (take-all n xs (omega arith))
 
-pub peer-put : (z b : List ℕ) (from : ℕ) (r d : List ℕ) (to : ℕ) (d′ : List ℕ) → length z ≡ hopSize → from + hopSize ≤ length b
-    → r ≡ written z 0 (take hopSize (drop from b)) → d′ ≡ written d to (take hopSize (drop 0 r)) → d′ ≡ written d to (take hopSize (drop from b))
-peer-put z b from r d to d′ lz h q p = passed-on z (take hopSize (drop from b)) r d to d′ lz (length-take-le hopSize (drop from b) (simp length-drop (omega arith))) q p
+pub piece-put : (n : ℕ) (z b : List ℕ) (from : ℕ) (r d : List ℕ) (to : ℕ) (d′ : List ℕ) → length z ≡ n → from + n ≤ length b
+    → r ≡ written z 0 (take n (drop from b)) → d′ ≡ written d to (take n (drop 0 r)) → d′ ≡ written d to (take n (drop from b))
+piece-put n z b from r d to d′ lz h q p = passed-on n z (take n (drop from b)) r d to d′ lz (length-take-le n (drop from b) (simp length-drop (omega arith))) q p
+
+pub as-put : (b : List ℕ) → Bytes b → (at : ℕ) → at + 8 ≤ length b → (z r d : List ℕ) (to : ℕ) (d′ : List ℕ) → length z ≡ 8
+    → r ≡ written z 0 (take 8 (drop at b)) → d′ ≡ written d to (take 8 (drop 0 r)) → d′ ≡ written d to (octets8 (isdAsnAt b at .0))
+unfolding isdAsnAt
+as-put b bytes at h z r d to d′ lz q p = piece-put 8 z b at r d to d′ lz h q p ∙ ap (written d to) (eight b bytes at h)
 
 pub own-put : (b : List ℕ) → Bytes b → (at : ℕ) → at + entrySize ≤ length b → (z r₁ r₂ d : List ℕ) (to : ℕ) (d′ : List ℕ) → length z ≡ hopSize
     → r₁ ≡ written (set z 0 (getD b (at + 18) 0)) 1 (take 4 (drop (at + 14) b)) → r₂ ≡ written r₁ 5 (take 6 (drop (at + 19) b)) → d′ ≡ written d to (take hopSize (drop 0 r₂))
     → d′ ≡ written d to (hopOctets (asEntryAt b at .hop))
 own-put b bytes at h z r₁ r₂ d to d′ lz q₁ q₂ p =
-    passed-on z ((units ++ ids) ++ mac) r₂ d to d′ lz (omega (arith, length-append (units ++ ids) mac, five, mac-length)) written-all p
+    passed-on hopSize z ((units ++ ids) ++ mac) r₂ d to d′ lz (omega (arith, length-append (units ++ ids) mac, five, mac-length)) written-all p
     ∙ ap (written d to) (own-pieces b bytes at h)
   where
     units : List ℕ

@@ -16,7 +16,7 @@ use Rattle.spec.specs.declared.Verdict.the-variants.{Accepted}
 use Rattle.spec.specs.Limits.{headSize, maxEntries, maxSegments}
 use Rattle.spec.specs.Basics.{if_then_else_}
 use Rattle.spec.specs.Octets.{be16, be32}
-use Rattle.spec.specs.Book.{verdict, entryCountAt, bodyOffset, entryOffset, peerCount, isdAsnAt, asEntryAt, peerEntryAt, segmentAt}
+use Rattle.spec.specs.Book.{verdict, headOffset, timestampAt, idAt, entryCountAt, bodyOffset, entryOffset, peerCount, isdAsnAt, asEntryAt, peerEntryAt, segmentAt}
 use Rattle.spec.specs.Edges.{entryOf, asOf, peerOf}
 use Rattle.spec.specs.Assembly.{isPeerHop, isPeerEdge, atShortcut, hopOf, segmentOf}
 use Rattle.spec.proofs.Membership.{not-both}
@@ -126,6 +126,24 @@ module _ (b : List ℕ) (ok : verdict b ≡ Accepted) (e : Edge) (u : Usable b e
   pub count-few : getD b (15 + headSize * e .position) 0 ≤ maxEntries
   count-few = omega (arith, count-byte, count-most b (accepted b ok) e u)
 
+  pub time-within : 8 + headSize * e .position + 4 ≤ length b
+  time-within = omega (arith, count-within)
+
+  pub id-within : 12 + headSize * e .position + 2 ≤ length b
+  id-within = omega (arith, count-within)
+
+-- what a head says
+module _ (b : List ℕ) (e : Edge) where
+  pub time-read : be32 b (8 + headSize * e .position) ≡ segmentOf b e .timestamp
+  unfolding segmentOf segmentAt timestampAt headOffset
+  time-read = refl
+
+  pub id-read : be16 b (12 + headSize * e .position) ≡ segmentOf b e .id
+  unfolding segmentOf segmentAt idAt headOffset
+  id-read =
+      let p : 12 + headSize * e .position ≡ 8 + headSize * e .position + 4 = omega arith in
+      ap (be16 b) p
+
 -- the entry of a hop
 pub entry-from : (b : List ℕ) (e : Edge) (n j : ℕ) → n ≡ length (segmentOf b e .entries) → entryFrom e n j ≡ entryFrom e (length (segmentOf b e .entries)) j
 entry-from b e n j q = ap (λ k. entryFrom e k j) q
@@ -162,13 +180,20 @@ module _ (b : List ℕ) (e : Edge) (m at : ℕ) (here : Here b e m at) where
     unfolding peerEntryAt
     link-units = sym (ap (λ (x : HopField). x .units) link-hop)
 
-    pub link-ingress : be16 b (linkOffset e at + 13) ≡ hopOf (segmentOf b e) e m .ingress
+    link-ingress : be16 b (linkOffset e at + 13) ≡ hopOf (segmentOf b e) e m .ingress
     unfolding peerEntryAt
     link-ingress = sym (ap (λ (x : HopField). x .ingress) link-hop)
 
-    pub link-egress : be16 b (linkOffset e at + 15) ≡ hopOf (segmentOf b e) e m .egress
+    link-egress : be16 b (linkOffset e at + 15) ≡ hopOf (segmentOf b e) e m .egress
     unfolding peerEntryAt
     link-egress = sym (ap (λ (x : HopField). x .egress) link-hop)
+
+    pub link-ids : (x : ℕ) → x ≡ linkOffset e at
+        → (be16 b (x + 13) ≡ hopOf (segmentOf b e) e m .ingress) × (be16 b (x + 13 + 2) ≡ hopOf (segmentOf b e) e m .egress) × (x + 13 + 4 ≤ length b)
+    link-ids x p =
+        let f : x + 13 ≡ linkOffset e at + 13 = omega arith in
+        let g : x + 13 + 2 ≡ linkOffset e at + 15 = omega arith in
+        (ap (be16 b) f ∙ link-ingress, ap (be16 b) g ∙ link-egress, omega (arith, here .link q .room))
 
     pub link-mtu-read : be16 b (linkOffset e at + 10) ≡ peerOf (segmentOf b e) m (e .peer - 1) .mtu
     unfolding peerEntryAt
@@ -183,10 +208,15 @@ module _ (b : List ℕ) (e : Edge) (m at : ℕ) (here : Here b e m at) where
     unfolding asEntryAt
     own-units = sym (ap (λ (x : HopField). x .units) own-hop)
 
-    pub own-ingress : be16 b (at + 14) ≡ hopOf (segmentOf b e) e m .ingress
+    own-ingress : be16 b (at + 14) ≡ hopOf (segmentOf b e) e m .ingress
     unfolding asEntryAt
     own-ingress = sym (ap (λ (x : HopField). x .ingress) own-hop)
 
-    pub own-egress : be16 b (at + 16) ≡ hopOf (segmentOf b e) e m .egress
+    own-egress : be16 b (at + 16) ≡ hopOf (segmentOf b e) e m .egress
     unfolding asEntryAt
     own-egress = sym (ap (λ (x : HopField). x .egress) own-hop)
+
+    pub own-ids : (be16 b (at + 14) ≡ hopOf (segmentOf b e) e m .ingress) × (be16 b (at + 14 + 2) ≡ hopOf (segmentOf b e) e m .egress) × (at + 14 + 4 ≤ length b)
+    own-ids =
+        let g : at + 14 + 2 ≡ at + 16 = omega arith in
+        (own-ingress, ap (be16 b) g ∙ own-egress, omega (arith, here .room))

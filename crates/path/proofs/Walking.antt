@@ -1,13 +1,13 @@
 -- The walks over an edge's hops: their turns, and what they end in.
 -- Assumes nothing.
-use Prim.Native.Nat.{ℕ, _+_, _-_, _≤_, _<_, min}
+use Prim.Native.Nat.{ℕ, _+_, _-_, _/_, _%_, _^_, _≤_, _<_, min}
 use native.Mathlib.Nat.{zero-add, add-zero}
 use native.Mathlib.Numerals.{add-one}
 use native.Mathlib.Omega.{arith}
 use mathlib.Core.Path.{_≡_, refl, sym, ap, ap₂, _∙_}
 use mathlib.Core.Bool.{Bool, true, false, _&&_}
 use mathlib.Core.List.{List, [], _∷_, _++_, map, flatMap, reverse, reverse-cons, reverse-append, reverse-reverse, append-nil}
-use lib.ListN.{length}
+use lib.ListN.{length, take, drop}
 use lib.Dec.{eqb}
 use borrow.Author.Tests.{eqb-true, eq-eqb}
 use Rattle.spec.specs.declared.HopField.{HopField}
@@ -16,7 +16,7 @@ use Rattle.spec.specs.declared.Edge.{Edge}
 use Rattle.spec.specs.Limits.{infoSize, maxTime}
 use Rattle.spec.specs.Basics.{if_then_else_, range}
 use Rattle.spec.specs.Octets.{octets2, octets4}
-use Rattle.spec.specs.Book.{Segment, timestampAt, idAt, macAt, asEntryAt, segmentAt}
+use Rattle.spec.specs.Book.{Segment, macAt, asEntryAt}
 use Rattle.spec.specs.Assembly.{least, unitsOf, life, mtusAt, hopOf, hopCount, usedEntries, interfacesAt, inDirection, hopsOf, interfacesOf, mtusOf, infoOf, expiryOf, segmentOf, hopsOn, interfacesOn, mtusOn, infoOn, expiryOn, isPeerHop, isPeerEdge, atShortcut, foldStep, foldMacs, idBelow, stopAt}
 use Rattle.spec.specs.Records.{hopOctets, infoOctets, interfaceAsOctets, interfaceIdOctets}
 use Rattle.spec.proofs.Membership.{not-both}
@@ -24,7 +24,6 @@ use Rattle.spec.proofs.Lists.{map-append, map-reverse, range-suc, range-up, ran
 use Rattle.spec.proofs.ByteLaws.{info-length}
 use Rattle.spec.proofs.RouterLaws.{idBelow-next}
 use Rattle.output.specs.Write.{written}
-use Rattle.output.proofs.Writing.{written-pair}
 use Rattle.path.specs.Usable.{Usable}
 use Rattle.path.specs.Places.{Here, Wrote, entryFrom, passed, fromLeaf}
 use Rattle.path.specs.Parts.{Part, Hops, Ases, Ids, infoBytes, interfacesHere, entryBytes, edgeBytes, walked, unitsPassed, mtusPassed, stopFrom, flagsOf}
@@ -180,10 +179,6 @@ module _ (b : List ℕ) (e : Edge) where
       p ∙ ap (λ i. least 255 (map unitsOf (map (hopOf (segmentOf b e) e) (passed b e i)))) q
       ∙ ap (λ l. least 255 (map unitsOf l)) (sym (hops-on b e u))
 
-  pub time-read : (t : ℕ) → t ≡ timestampAt b (e .position) → t ≡ segmentOf b e .timestamp
-  unfolding segmentOf segmentAt
-  time-read t q = q
-
   module _ (t x l : ℕ) (p : t ≡ segmentOf b e .timestamp) (q : x ≡ least 255 (map unitsOf (hopsOn b e))) (r : l ≡ life x) where
     expiry-is : min maxTime (t + l) ≡ expiryOn b e
     unfolding expiryOn expiryOf hopsOn
@@ -219,8 +214,8 @@ module _ (b : List ℕ) (e : Edge) where
 
   -- ---- ids
 
-  pub id-none : (x : ℕ) → x ≡ idAt b (e .position) → x ≡ idBelow (segmentOf b e) 0
-  unfolding segmentOf segmentAt idBelow foldMacs
+  pub id-none : (x : ℕ) → x ≡ segmentOf b e .id → x ≡ idBelow (segmentOf b e) 0
+  unfolding idBelow foldMacs
   id-none x q = q
 
   pub id-more : (i at x : ℕ) → Here b e i at → i < length (segmentOf b e .entries) → x ≡ idBelow (segmentOf b e) i → foldStep x (macAt b (at + 19)) ≡ idBelow (segmentOf b e) (i + 1)
@@ -269,13 +264,25 @@ stop-all b e n k s i p q r h = h ∙ r ∙ ap (stopFrom e) q ∙ stop-is b e n p
 
 -- ---- an info
 
-pub fields-written : (d : List ℕ) (at f h i t : ℕ)
-    → written (written (written (written d at (f ∷ [])) (at + 1) (h ∷ [])) (at + 2) (octets2 i)) (at + 4) (octets4 t)
-    ≡ written d at ((f ∷ h ∷ []) ++ octets2 i ++ octets4 t)
-fields-written d at f h i t =
-    ap (λ l. written (written l (at + 2) (octets2 i)) (at + 4) (octets4 t)) (written-pair d at 1 (f ∷ []) (h ∷ []) refl)
-    ∙ ap (λ l. written l (at + 4) (octets4 t)) (written-pair d at 2 (f ∷ h ∷ []) (octets2 i) refl)
-    ∙ written-pair d at 4 ((f ∷ h ∷ []) ++ octets2 i) (octets4 t) (unfold octets2 in refl)
+two-bytes : (i : ℕ) → i < 2 ^ 16 → i / 256 ∷ i % 256 ∷ [] ≡ octets2 i
+unfolding octets2
+two-bytes i h =
+    let e : i / 256 ≡ i / 2 ^ 8 % 2 ^ 8 = omega arith in
+    ap (λ x. x ∷ i % 256 ∷ []) e
+
+four-bytes : (t : ℕ) → t < 2 ^ 32 → t / 16777216 ∷ t / 65536 % 256 ∷ t / 256 % 256 ∷ t % 256 ∷ [] ≡ octets4 t
+unfolding octets4 octets2
+four-bytes t h =
+    let p : t / 16777216 ≡ t / 2 ^ 16 / 2 ^ 8 % 2 ^ 8 = omega arith in
+    let q : t / 256 % 256 ≡ t % 2 ^ 16 / 2 ^ 8 % 2 ^ 8 = omega arith in
+    let r : t % 256 ≡ t % 2 ^ 16 % 2 ^ 8 = omega arith in
+    ap₂ (λ x y. x ∷ t / 65536 % 256 ∷ y) p (ap₂ (λ x y. x ∷ y ∷ []) q r)
+
+-- the fields of an info, copied from a local one
+pub fields-copied : (d : List ℕ) (at f h i t : ℕ) (d′ : List ℕ) → i < 2 ^ 16 → t < 2 ^ 32
+    → d′ ≡ written d at (take infoSize (drop 0 (f ∷ h ∷ i / 256 ∷ i % 256 ∷ t / 16777216 ∷ t / 65536 % 256 ∷ t / 256 % 256 ∷ t % 256 ∷ [])))
+    → d′ ≡ written d at ((f ∷ h ∷ []) ++ octets2 i ++ octets4 t)
+fields-copied d at f h i t d′ p q e = e ∙ ap₂ (λ x y. written d at ((f ∷ h ∷ []) ++ x ++ y)) (two-bytes i p) (four-bytes t q)
 
 pub info-wrote : (b : List ℕ) (e : Edge) (d : List ℕ) (at : ℕ) (d′ : List ℕ) (f h i t : ℕ)
     → d′ ≡ written d at ((f ∷ h ∷ []) ++ octets2 i ++ octets4 t)

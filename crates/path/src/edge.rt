@@ -1,7 +1,7 @@
 // What a path holds of one edge: a walk over its hops in the path's order, for MTUs from the leaf down.
 ghost use mathlib.Core.Path.{_≡_};
 ghost use mathlib.Core.List.{[], _∷_, _++_, map};
-ghost use Prim.Native.Nat.{_+_, _*_, _^_, _≤_, _<_, min};
+ghost use Prim.Native.Nat.{_+_, _*_, _≤_, _<_, min};
 ghost use lib.ListN.{length};
 ghost use Rattle.spec.specs.Limits.{maxEntries, infoSize, hopSize};
 ghost use Rattle.spec.specs.Octets.{octets2, octets4};
@@ -13,6 +13,7 @@ ghost use Rattle.path.specs.Places.{Wrote};
 ghost use Rattle.path.specs.Parts.{Hops, Ases, Ids, infoBytes, edgeBytes, stopFrom, flagsOf};
 use crate::entry;
 use crate::places;
+use crate::within;
 use spec::SolutionEdge;
 
 // The bytes of an info in a path.
@@ -151,7 +152,7 @@ pub(crate) fn expiry(book: &[u8], table: &[u16; places::PLACES], e: SolutionEdge
     requires { ⌜ Usable (now book) (edgeBy e) ⌝ }
     ensures { λ r. ⌜ r ≡ expiryOn (now (book .entry)) (edgeBy e) ⌝ }
 {
-    let start = segment::timestamp(book, e.position);
+    let start = places::timestamp(book, e);
     let life = standard::types::exp_time_to_duration(units(book, table, e));
     if LAST - start < life {
         return LAST;
@@ -180,7 +181,7 @@ fn segment_id(book: &[u8], table: &[u16; places::PLACES], e: SolutionEdge) -> u1
 {
     let n = places::entry_count(book, e);
     let stop = stop_from(e, places::entry_of(e, n, 0));
-    let mut id = segment::id(book, e.position);
+    let mut id = places::id(book, e);
     let mut i: usize = 0;
     while i < stop {
         let at = places::offset(book, table, e, i);
@@ -202,14 +203,22 @@ fn flags(e: SolutionEdge) -> u8
     bit(e.construction) + 2 * bit(0 < e.peer)
 }
 
+// The fields are put together in a local info, which the compiler moves as a whole.
 fn put_fields(out: &mut [u8], at: usize, flags: u8, hops: u8, id: u16, timestamp: u32)
-    requires { ⌜ at < 2 ^ 33 ⌝ }
+    requires { ⌜ at + infoSize ≤ length (now out) ⌝ }
     ensures { λ _. ⌜ now (out .exit) ≡ written (now (out .entry)) at ((flags ∷ hops ∷ []) ++ octets2 id ++ octets4 timestamp) ⌝ }
 {
-    output::put_byte(out, at, flags);
-    output::put_byte(out, at + 1, hops);
-    output::put16(out, at + 2, id);
-    output::put32(out, at + 4, timestamp);
+    let r = [
+        flags,
+        hops,
+        (id / 256) as u8,
+        (id % 256) as u8,
+        (timestamp / 16777216) as u8,
+        (timestamp / 65536 % 256) as u8,
+        (timestamp / 256 % 256) as u8,
+        (timestamp % 256) as u8,
+    ];
+    within::copy(&r, 0, out, at, INFO);
 }
 
 pub(crate) fn put_info(
@@ -221,13 +230,13 @@ pub(crate) fn put_info(
 ) -> usize
     requires { ⌜ Ready (now book) (now table) ⌝ }
     requires { ⌜ Usable (now book) (edgeBy e) ⌝ }
-    requires { ⌜ at < 2 ^ 32 ⌝ }
+    requires { ⌜ at + infoSize ≤ length (now out) ⌝ }
     ensures { λ r. ⌜ Wrote (now (out .entry)) at (infoBytes (now (book .entry)) (edgeBy e)) (now (out .exit)) r × (r ≡ at + infoSize) ⌝ }
 {
     let n = places::entry_count(book, e);
     let hops = n - (e.shortcut as usize);
     let id = segment_id(book, table, e);
-    let timestamp = segment::timestamp(book, e.position);
+    let timestamp = places::timestamp(book, e);
     put_fields(out, at, flags(e), hops as u8, id, timestamp);
     at + INFO
 }

@@ -4,6 +4,7 @@ ghost use mathlib.Core.List.{_++_};
 ghost use Prim.Native.Nat.{_+_, _^_, _≤_, _<_, min};
 ghost use lib.ListN.{length, take, drop};
 ghost use Rattle.spec.specs.Limits.{entrySize, hopSize};
+ghost use Rattle.spec.specs.Octets.{be16};
 ghost use Rattle.spec.specs.Book.{isdAsnAt, asEntryAt};
 ghost use Rattle.spec.specs.Edges.{asOf};
 ghost use Rattle.output.specs.Write.{written};
@@ -14,7 +15,6 @@ ghost use Rattle.path.specs.Places.{Here, Wrote};
 ghost use Rattle.path.specs.Parts.{Hops, Ases, Ids, linkMtus, ingressShown, shownAs, asIf, idIf, interfacesHere, entryBytes};
 use crate::places;
 use crate::within;
-use spec::IsdAsn;
 use spec::SolutionEdge;
 
 // The bytes of a hop in a path.
@@ -40,26 +40,16 @@ pub(crate) fn units_at(book: &[u8], e: SolutionEdge, m: usize, at: usize) -> u8
     book[at + 18]
 }
 
-fn ingress_at(book: &[u8], e: SolutionEdge, m: usize, at: usize) -> u16
+// Where the two interface ids of the hop at entry m stand, ingress before egress.
+fn ids_offset(book: &[u8], e: SolutionEdge, m: usize, at: usize) -> usize
     requires { ⌜ Here (now book) (edgeBy e) m at ⌝ }
     requires { ⌜ at < 2 ^ 16 ⌝ }
-    ensures { λ r. ⌜ r ≡ hopOf (segmentOf (now (book .entry)) (edgeBy e)) (edgeBy e) m .ingress ⌝ }
+    ensures { λ r. ⌜ (be16 (now (book .entry)) r ≡ hopOf (segmentOf (now (book .entry)) (edgeBy e)) (edgeBy e) m .ingress) × (be16 (now (book .entry)) (r + 2) ≡ hopOf (segmentOf (now (book .entry)) (edgeBy e)) (edgeBy e) m .egress) × (r + 4 ≤ length (now (book .entry))) ⌝ }
 {
     if places::is_peer_hop(e, m) {
-        return within::read16(book, places::link_offset(e, at) + 13);
+        return places::link_offset(e, at) + 13;
     }
-    within::read16(book, at + 14)
-}
-
-fn egress_at(book: &[u8], e: SolutionEdge, m: usize, at: usize) -> u16
-    requires { ⌜ Here (now book) (edgeBy e) m at ⌝ }
-    requires { ⌜ at < 2 ^ 16 ⌝ }
-    ensures { λ r. ⌜ r ≡ hopOf (segmentOf (now (book .entry)) (edgeBy e)) (edgeBy e) m .egress ⌝ }
-{
-    if places::is_peer_hop(e, m) {
-        return within::read16(book, places::link_offset(e, at) + 15);
-    }
-    within::read16(book, at + 16)
+    at + 14
 }
 
 // An entry's own hop: in the book its units stand after the interfaces. It is put together in a local one, which the compiler moves as a whole.
@@ -127,8 +117,9 @@ fn shown(book: &[u8], e: SolutionEdge, m: usize, at: usize) -> ShownIds
     requires { ⌜ at < 2 ^ 16 ⌝ }
     ensures { λ r. ⌜ interfacesHere (now (book .entry)) (edgeBy e) m ≡ shownAs (asOf (segmentOf (now (book .entry)) (edgeBy e)) m) (r .first) ++ shownAs (asOf (segmentOf (now (book .entry)) (edgeBy e)) m) (r .second) ⌝ }
 {
-    let egress = egress_at(book, e, m, at);
-    let ingress = shown_ingress(e, m, ingress_at(book, e, m, at));
+    let from = ids_offset(book, e, m, at);
+    let ingress = shown_ingress(e, m, within::read16(book, from));
+    let egress = within::read16(book, from + 2);
     if e.construction {
         return ShownIds {
             first: ingress,
@@ -141,14 +132,17 @@ fn shown(book: &[u8], e: SolutionEdge, m: usize, at: usize) -> ShownIds
     }
 }
 
-fn put_as(out: &mut [u8], to: usize, local: IsdAsn, id: u16) -> usize
-    requires { ⌜ to + 8 ≤ length (now out) ⌝ }
-    ensures { λ r. ⌜ Wrote (now (out .entry)) to (asIf local id) (now (out .exit)) r × (r ≤ to + 8) ⌝ }
+// The AS at an offset of the book, if the id is shown. It stands there as in a path, and goes by way of a local one.
+fn put_as(book: &[u8], at: usize, out: &mut [u8], to: usize, id: u16) -> usize
+    requires { ⌜ (at + 8 ≤ length (now book)) × (to + 8 ≤ length (now out)) ⌝ }
+    ensures { λ r. ⌜ Wrote (now (out .entry)) to (asIf (isdAsnAt (now (book .entry)) at) id) (now (out .exit)) r × (r ≤ to + 8) ⌝ }
 {
     if id == 0 {
         return to;
     }
-    within::put64(out, to, local.0);
+    let mut r = [0u8; 8];
+    within::copy(book, at, &mut r, 0, 8);
+    within::copy(&r, 0, out, to, 8);
     to + 8
 }
 
@@ -161,13 +155,6 @@ fn put_id(out: &mut [u8], to: usize, id: u16) -> usize
     }
     within::put16(out, to, id);
     to + 2
-}
-
-fn local_at(book: &[u8], at: usize) -> IsdAsn
-    requires { ⌜ at + entrySize ≤ length (now book) ⌝ }
-    ensures { λ r. ⌜ r ≡ isdAsnAt (now (book .entry)) at ⌝ }
-{
-    IsdAsn(within::read64(book, at))
 }
 
 pub(crate) fn put_ases(
@@ -184,9 +171,8 @@ pub(crate) fn put_ases(
     ensures { λ r. ⌜ Wrote (now (out .entry)) to (entryBytes (now (book .entry)) (edgeBy e) Ases m) (now (out .exit)) r × (r ≤ to + 16) ⌝ }
 {
     let shown = shown(book, e, m, at);
-    let local = local_at(book, at);
-    let next = put_as(out, to, local, shown.first);
-    put_as(out, next, local, shown.second)
+    let next = put_as(book, at, out, to, shown.first);
+    put_as(book, at, out, next, shown.second)
 }
 
 pub(crate) fn put_ids(

@@ -8,6 +8,7 @@ ghost use Rattle.spec.specs.Book.{verdict, macAt};
 ghost use Rattle.spec.specs.Assembly.{isPeerHop, segmentOf};
 ghost use Rattle.path.specs.Usable.{Ready, edgeBy, Usable};
 ghost use Rattle.path.specs.Places.{linkOffset, isLeft, Here, entryFrom};
+use crate::within;
 use spec::AsEntry;
 use spec::Head;
 use spec::Limits;
@@ -16,6 +17,9 @@ use spec::Sizes;
 use spec::SolutionEdge;
 
 pub const PLACES: usize = Limits::SEGMENTS * Limits::ENTRIES;
+
+// Where the first segment's id stands.
+const ID: usize = Sizes::SIZE + 4;
 
 // Where the low byte of the first segment's entry count stands.
 const COUNT: usize = Sizes::SIZE + 7;
@@ -27,6 +31,24 @@ pub(crate) fn entry_count(book: &[u8], e: SolutionEdge) -> usize
     ensures { λ r. ⌜ (r ≡ length (segmentOf (now (book .entry)) (edgeBy e) .entries)) × (r ≤ maxEntries) × (e .shortcut < r) ⌝ }
 {
     book[COUNT + Head::SIZE * (e.position as usize)] as usize
+}
+
+// When the edge's segment was made.
+pub(crate) fn timestamp(book: &[u8], e: SolutionEdge) -> u32
+    requires { ⌜ verdict (now book) ≡ Accepted ⌝ }
+    requires { ⌜ Usable (now book) (edgeBy e) ⌝ }
+    ensures { λ r. ⌜ r ≡ segmentOf (now (book .entry)) (edgeBy e) .timestamp ⌝ }
+{
+    within::read32(book, Sizes::SIZE + Head::SIZE * (e.position as usize))
+}
+
+// The segment's id, before any MAC is folded in.
+pub(crate) fn id(book: &[u8], e: SolutionEdge) -> u16
+    requires { ⌜ verdict (now book) ≡ Accepted ⌝ }
+    requires { ⌜ Usable (now book) (edgeBy e) ⌝ }
+    ensures { λ r. ⌜ r ≡ segmentOf (now (book .entry)) (edgeBy e) .id ⌝ }
+{
+    within::read16(book, ID + Head::SIZE * (e.position as usize))
 }
 
 // The entry of hop j, of n entries.

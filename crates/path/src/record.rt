@@ -1,7 +1,7 @@
 // The record of a whole path: the edges of a solution's record one after the other.
 ghost use mathlib.Core.Path.{_≡_};
 ghost use mathlib.Core.List.{[], _∷_, _++_, map, flatMap};
-ghost use Prim.Native.Nat.{_+_, _*_, _^_, _≤_, _<_, min};
+ghost use Prim.Native.Nat.{_+_, _*_, _≤_, _<_, min};
 ghost use lib.ListN.{length};
 ghost use Rattle.spec.specs.Limits.{maxEdges, maxEntries, maxMtu, maxTime, infoSize, hopSize, pathSize};
 ghost use Rattle.spec.specs.Basics.{padded};
@@ -46,7 +46,7 @@ pub(crate) fn put_infos(
 ) -> usize
     requires { ⌜ Ready (now book) (now table) ⌝ }
     requires { ⌜ UsableRecord (now book) (now given) count ⌝ }
-    requires { ⌜ at < 2 ^ 24 ⌝ }
+    requires { ⌜ at + maxEdges * infoSize ≤ length (now out) ⌝ }
     ensures { λ r. ⌜ Wrote (now (out .entry)) at (flatMap (infoBytes (now (book .entry))) (edgesIn (now (given .entry)) count)) (now (out .exit)) r × (r ≤ at + maxEdges * infoSize) ⌝ }
 {
     let mut to = at;

@@ -19,6 +19,9 @@ abbrev μ-loop : tie.MeasureT-loop
 entry-count-requires : tie.Need-entry-count-requires Inv-loop μ-loop
 entry-count-requires c κs = (c .before .pre .0 .ok, c .before .pre .1)
 
+id-requires : tie.Need-id-requires Inv-loop μ-loop
+id-requires c κs = (c .before .before .before .before .pre .0 .ok, c .before .before .before .before .pre .1)
+
 loop-holds : tie.Need-loop-holds Inv-loop μ-loop
 loop-holds c = (id-none _ _ _ (c .id .ensures), omega arith)
 
@@ -49,7 +52,7 @@ segment-id-spec =
     entry-count-requires
     (λ c κs. search needs)
     (λ c κs. search needs)
-    (λ c κs. search needs)
+    id-requires
     loop-holds
     offset-requires
     mac-requires

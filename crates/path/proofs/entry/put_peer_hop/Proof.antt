@@ -1,7 +1,8 @@
 -- `put_peer_hop` meets its contract.
 -- Assumes nothing.
 use mathlib.Core.Path.{refl}
-use Rattle.path.proofs.Copies.{peer-put}
+use Rattle.spec.specs.Limits.{hopSize}
+use Rattle.path.proofs.Copies.{piece-put}
 use borrow.Author.Needs.{needs}
 use Rattle.path.proofs.entry.put_peer_hop.Statement.{statement}
 use Rattle.path.proofs.entry.put_peer_hop.Tie as tie
@@ -22,7 +23,7 @@ same-length : tie.Need-same-length
 same-length c = search needs
 
 returns : tie.Need-returns
-returns c = peer-put _ _ _ _ _ _ _ refl (c .before .before .before .before .before .before .before .before .before .before .pre .0) (c .before .before .before .before .before .before .copy .ensures) (c .before .before .copy2 .ensures)
+returns c = piece-put hopSize _ _ _ _ _ _ _ refl (c .before .before .before .before .before .before .before .before .before .before .pre .0) (c .before .before .before .before .before .before .copy .ensures) (c .before .before .copy2 .ensures)
 
 pub put-peer-hop-spec : {M : Type 1} → statement M
 put-peer-hop-spec =
