@@ -6,7 +6,7 @@ use native.Mathlib.Omega.{arith}
 use mathlib.Core.Path.{_≡_, refl, sym, ap, ap₂, _∙_, subst}
 use mathlib.Core.Bool.{Bool, true, false}
 use mathlib.Core.List.{List, [], _∷_, _++_, map, flatMap, append-assoc, List·Memᴰ as Mem, List·Memᴰ·head as head, List·Memᴰ·tail as tail}
-use lib.ListN.{length, getD, take, drop, replicate, length-append, length-map, length-drop}
+use lib.ListN.{length, getD, take, drop, replicate, length-append, length-map, length-take, length-drop, take-append-drop}
 use lib.Seq.{length-take-le, drop-at}
 use Rattle.spec.specs.declared.IsdAsn.{IsdAsn}
 use Rattle.spec.specs.declared.HopField.{HopField}
@@ -15,11 +15,11 @@ use Rattle.spec.specs.declared.Edge.{Edge}
 use Rattle.spec.specs.declared.Path.{Path as PathHead}
 use Rattle.spec.specs.declared.PathAnswer.{PathAnswer}
 use Rattle.spec.specs.declared.PathAnswer.the-variants.{Path, Loop, Bare}
-use Rattle.spec.specs.Limits.{maxEdges, maxEntries, maxMtu, maxTime, pathSize, pathHeadSize, infoSize, hopSize}
+use Rattle.spec.specs.Limits.{maxEdges, maxEntries, pathSize, pathHeadSize, infoSize, hopSize}
 use Rattle.spec.specs.Basics.{if_then_else_, range, padded}
 use Rattle.spec.specs.Octets.{Bytes, octets2, octets4, octets8}
 use Rattle.spec.specs.Book.{Segment, isdAsnAt}
-use Rattle.spec.specs.Assembly.{least, hopCount, usedEntries, interfaceIf, interfacesAt, interfacesOf, segmentOf, infoOn, hopsOn, interfacesOn, mtusOn, expiryOn, CombinedPath, combinedPath, isLoop, isBare, outcome}
+use Rattle.spec.specs.Assembly.{hopCount, usedEntries, interfaceIf, interfacesAt, interfacesOf, segmentOf, infoOn, hopsOn, interfacesOn, CombinedPath, combinedPath, isLoop, isBare, outcome}
 use Rattle.spec.specs.Records.{infoOctets, hopOctets, asOctets, interfaceAsOctets, interfaceIdOctets, noInterface, pathHead, pathHeadOctets, pathOctets}
 use Rattle.spec.specs.Answers.{leftBy, pathAnswer}
 use Rattle.spec.proofs.Membership.{map-mem, flatMap-mem}
@@ -29,13 +29,13 @@ use Rattle.spec.proofs.PathLaws.{direction-length, used-length, hops-length, he
 use Rattle.spec.proofs.Bounds.{flat-exact}
 use Rattle.spec.proofs.ReadBack.{good-interfaces}
 use Rattle.output.specs.Write.{written, zeroed}
-use Rattle.output.proofs.Writing.{written-pair, written-length, written-within, written-next, zeroed-rest, zeroed-all}
-use Rattle.path.specs.declared.record.Front.{Front}
+use Rattle.output.proofs.Writing.{written-pair, written-next, zeroed-rest, zeroed-all}
+use Rattle.path.specs.declared.record.Ends.{Ends}
 use Rattle.path.specs.Usable.{Usable}
-use Rattle.path.specs.Places.{Wrote}
+use Rattle.path.specs.Places.{Wrote, Appended}
 use Rattle.path.specs.Parts.{Hops, Ases, Ids, infoBytes, edgeBytes}
-use Rattle.path.specs.Whole.{UsableEdges, numberAt, numbersIn, someFrequent, frontBytes, Fronted}
-use Rattle.path.proofs.Writes.{wrote-join}
+use Rattle.path.specs.Whole.{UsableEdges, numberAt, numbersIn, someFrequent, Drawn, Placed}
+use Rattle.path.proofs.Writes.{appended-join, appended-some, appended-before}
 use Rattle.path.proofs.Standing.{count-most}
 use Rattle.path.proofs.Walking.{flat-map, flat-flat}
 use Rattle.path.proofs.Repeats.{numberOf, loop-of}
@@ -134,20 +134,6 @@ module _ (b : List ℕ) (bytes : Bytes b) where
       interfaces-most : length (p .interfaces) ≤ length c * (maxEntries * 2)
       interfaces-most = unfold combinedPath in flat-most (interfacesOn b) (maxEntries * 2) c (λ e m. interfaces-few b a e (u .edges e m))
 
--- ---- what stands before the ids
-
-pub fronted : (b : List ℕ) (c : List Edge) {d d₁ : List ℕ} {r₁ : ℕ} {d₂ : List ℕ} {r₂ : ℕ} {d₃ : List ℕ} {r₃ : ℕ}
-    → Wrote d pathHeadSize (flatMap (infoBytes b) c) d₁ r₁ → Wrote d₁ r₁ (flatMap (edgeBytes b Hops) c) d₂ r₂ → Wrote d₂ r₂ (flatMap (edgeBytes b Ases) c) d₃ r₃
-    → Fronted b c d₃ (record { hops = r₁; ases = r₂; ids = r₃ })
-fronted b c {d} v w x =
-    record {
-      before = d;
-      bytes = unfold frontBytes in wrote-join (wrote-join v w) x;
-      hops = v .end;
-      ases = w .end;
-      ids = x .end;
-    }
-
 -- ---- interfaces read from the record
 
 abbrev localOf : PathInterface → IsdAsn
@@ -176,84 +162,61 @@ getD-map f [] k d = refl
 getD-map f (x ∷ xs) zero d = refl
 getD-map f (x ∷ xs) (suc k) d = getD-map f xs k d
 
-regroup : (t i h a q : List ℕ) → (t ++ ((i ++ h) ++ a)) ++ q ≡ (t ++ (i ++ h)) ++ (a ++ q)
-regroup t i h a q = simp append-assoc
-
-module _ (b : List ℕ) (bytes : Bytes b) (accepted : AcceptedBook b) (c : List Edge) (u : UsableEdges b c) (d : List ℕ) (front : Front)
-    (f : Fronted b c d front) (room : pathSize ≤ length d) where
+module _ (b : List ℕ) (bytes : Bytes b) (accepted : AcceptedBook b) (c : List Edge) (u : UsableEdges b c) (a : List ℕ) (ends : Ends) (f : Drawn b c a ends) where
   abbrev p : CombinedPath
   p = combinedPath b c
 
   sizes : Lengths b c
   sizes = lengths b bytes accepted c u
 
-  same-length : length d ≡ length (f .before)
-  same-length = ap length (f .bytes .bytes) ∙ written-length (f .before) pathHeadSize (frontBytes b c)
+  -- the counts, from where the parts end
+  pub hops-count : ((ends .hops - pathHeadSize - infoSize * length c) / hopSize ≡ length (p .hops)) × (length (p .hops) ≤ maxEdges * maxEntries)
+  hops-count = let s = sizes in (omega (arith, f .hops-end, s .hops), s .few-hops)
 
-  front-is : frontBytes b c ≡ (flatMap (infoBytes b) c ++ flatMap (edgeBytes b Hops) c) ++ flatMap (edgeBytes b Ases) c
-  unfolding frontBytes
-  front-is = refl
+  pub interfaces-count : (ends .ases / 8 ≡ length (p .interfaces)) × (length (p .interfaces) ≤ maxEdges * maxEntries * 2)
+  interfaces-count = let s = sizes in (omega (arith, f .ases-end, s .ases), s .few-interfaces)
 
-  front-length : length (frontBytes b c) ≡ length (flatMap (infoBytes b) c) + length (flatMap (edgeBytes b Hops) c) + length (flatMap (edgeBytes b Ases) c)
-  unfolding frontBytes
-  front-length =
-      omega (
-        arith,
-        length-append (flatMap (infoBytes b) c ++ flatMap (edgeBytes b Hops) c) (flatMap (edgeBytes b Ases) c),
-        length-append (flatMap (infoBytes b) c) (flatMap (edgeBytes b Hops) c),
-      )
+  -- where they end
+  pub record Reach : Type 0 where
+    pub hops : ends .hops ≡ pathHeadSize + infoSize * length c + hopSize * length (p .hops)
+    pub ases : ends .ases ≡ 8 * length (p .interfaces)
+    pub ids : ends .ids ≡ 2 * length (p .interfaces)
+    pub few-infos : length c ≤ maxEdges
+    pub few-hops : length (p .hops) ≤ maxEdges * maxEntries
+    pub few-interfaces : length (p .interfaces) ≤ maxEdges * maxEntries * 2
 
-  -- the counts, from where the parts start
-  pub infos-count : ((front .hops - pathHeadSize) / infoSize ≡ length c) × (length c ≤ maxEdges)
-  infos-count = let s = sizes in (omega (arith, f .hops, s .infos), s .few-infos)
-
-  pub hops-count : ((front .ases - front .hops) / hopSize ≡ length (p .hops)) × (length (p .hops) ≤ maxEdges * maxEntries)
-  hops-count = let s = sizes in (omega (arith, f .ases, s .hops), s .few-hops)
-
-  pub interfaces-count : ((front .ids - front .ases) / 8 ≡ length (p .interfaces)) × (length (p .interfaces) ≤ maxEdges * maxEntries * 2)
-  interfaces-count = let s = sizes in (omega (arith, f .ids, s .ases), s .few-interfaces)
-
-  pub ases-fit : front .ases + 8 * ((front .ids - front .ases) / 8) ≤ length d
-  ases-fit = let s = sizes in omega (arith, f .hops, f .ases, f .ids, s .infos, s .hops, s .ases, s .few-infos, s .few-hops, s .few-interfaces)
-
-  ases-stand : d ≡ (take pathHeadSize (f .before) ++ (flatMap (infoBytes b) c ++ flatMap (edgeBytes b Hops) c))
-      ++ (flatMap asOctets (map localOf (p .interfaces)) ++ drop (pathHeadSize + length (frontBytes b c)) (f .before))
-  ases-stand =
+  pub reach : Reach
+  reach =
       let s = sizes in
-      f .bytes .bytes
-      ∙ written-within (f .before) pathHeadSize (frontBytes b c) (omega (arith, same-length, front-length, s .infos, s .hops, s .ases, s .few-infos, s .few-hops, s .few-interfaces))
-      ∙ ap (λ l. (take pathHeadSize (f .before) ++ l) ++ drop (pathHeadSize + length (frontBytes b c)) (f .before)) front-is
-      ∙ regroup (take pathHeadSize (f .before)) (flatMap (infoBytes b) c) (flatMap (edgeBytes b Hops) c) (flatMap (edgeBytes b Ases) c) (drop (pathHeadSize + length (frontBytes b c)) (f .before))
-      ∙ ap
-      (λ l. (take pathHeadSize (f .before) ++ (flatMap (infoBytes b) c ++ flatMap (edgeBytes b Hops) c)) ++ (l ++ drop (pathHeadSize + length (frontBytes b c)) (f .before)))
-      (ases-of b c ∙ ases-flat (p .interfaces))
+      record {
+        hops = f .hops-end ∙ ap (λ n. pathHeadSize + infoSize * length c + n) (s .hops);
+        ases = f .ases-end ∙ s .ases;
+        ids = f .ids-end ∙ s .ids;
+        few-infos = s .few-infos;
+        few-hops = s .few-hops;
+        few-interfaces = s .few-interfaces;
+      }
 
-  ases-read : map (λ k. isdAsnAt d (front .ases + 8 * k)) (range 0 (length (p .interfaces))) ≡ map localOf (p .interfaces)
+  ases-stand : a ≡ [] ++ (flatMap asOctets (map localOf (p .interfaces)) ++ drop (ends .ases) a)
+  ases-stand = sym (take-append-drop (ends .ases) a) ∙ ap (λ l. l ++ drop (ends .ases) a) (f .ases ∙ ases-of b c ∙ ases-flat (p .interfaces))
+
+  ases-read : map (λ k. isdAsnAt a (0 + 8 * k)) (range 0 (length (p .interfaces))) ≡ map localOf (p .interfaces)
   ases-read =
-      ap (λ n. map (λ k. isdAsnAt d (front .ases + 8 * k)) (range 0 n)) (sym (length-map (p .interfaces) localOf))
-      ∙ read-all isdAsnAt asOctets (λ a. a .0 < 2 ^ 64) 8 isdAsnAt-shift as-back as-length d (front .ases) (map localOf (p .interfaces))
-      (λ a m. let w = map-mem localOf (p .interfaces) m in subst (λ (x : IsdAsn). x .0 < 2 ^ 64) (sym (w .2)) (good-interfaces b bytes c (w .0) (w .1) .local))
-      0 (take pathHeadSize (f .before) ++ (flatMap (infoBytes b) c ++ flatMap (edgeBytes b Hops) c)) (drop (pathHeadSize + length (frontBytes b c)) (f .before))
-      (omega (
-        arith,
-        length-append (take pathHeadSize (f .before)) (flatMap (infoBytes b) c ++ flatMap (edgeBytes b Hops) c),
-        length-append (flatMap (infoBytes b) c) (flatMap (edgeBytes b Hops) c),
-        length-take-le pathHeadSize (f .before) (omega (arith, same-length)),
-        f .hops,
-        f .ases,
-      ))
-      ases-stand
+      ap (λ n. map (λ k. isdAsnAt a (0 + 8 * k)) (range 0 n)) (sym (length-map (p .interfaces) localOf))
+      ∙ read-all isdAsnAt asOctets (λ x. x .0 < 2 ^ 64) 8 isdAsnAt-shift as-back as-length a 0 (map localOf (p .interfaces))
+      (λ x m. let w = map-mem localOf (p .interfaces) m in subst (λ (y : IsdAsn). y .0 < 2 ^ 64) (sym (w .2)) (good-interfaces b bytes c (w .0) (w .1) .local))
+      0 [] (drop (ends .ases) a) (omega arith) ases-stand
 
-  as-read : (k : ℕ) → k < length (p .interfaces) → isdAsnAt d (front .ases + 8 * k) ≡ getD (p .interfaces) k noInterface .local
+  as-read : (k : ℕ) → k < length (p .interfaces) → isdAsnAt a (0 + 8 * k) ≡ getD (p .interfaces) k noInterface .local
   as-read k h =
-      sym (map-at (λ i. isdAsnAt d (front .ases + 8 * i)) (noInterface .local) 0 (length (p .interfaces)) k h ∙ ap (λ i. isdAsnAt d (front .ases + 8 * i)) (zero-add k))
+      sym (map-at (λ i. isdAsnAt a (0 + 8 * i)) (noInterface .local) 0 (length (p .interfaces)) k h ∙ ap (λ i. isdAsnAt a (0 + 8 * i)) (zero-add k))
       ∙ ap (λ l. getD l k (noInterface .local)) ases-read ∙ getD-map localOf (p .interfaces) k noInterface
 
-  loop-read : someFrequent (numbersIn d (front .ases) ((front .ids - front .ases) / 8)) (numbersIn d (front .ases) ((front .ids - front .ases) / 8)) ≡ isLoop (p .interfaces)
-  loop-read = ap (λ l. someFrequent l l) (ap (numbersIn d (front .ases)) (interfaces-count .0) ∙ numbers) ∙ sym (loop-of (p .interfaces))
+  loop-read : someFrequent (numbersIn a 0 (ends .ases / 8)) (numbersIn a 0 (ends .ases / 8)) ≡ isLoop (p .interfaces)
+  loop-read = ap (λ l. someFrequent l l) (ap (numbersIn a 0) (interfaces-count .0) ∙ numbers) ∙ sym (loop-of (p .interfaces))
     where
       number : IsdAsn → ℕ
-      number a = a .0
+      number x = x .0
 
       map-map : (g : ℕ → IsdAsn) (ks : List ℕ) → map number (map g ks) ≡ map (λ k. g k .0) ks
       map-map g [] = refl
@@ -263,40 +226,88 @@ module _ (b : List ℕ) (bytes : Bytes b) (accepted : AcceptedBook b) (c : List 
       map-map′ [] = refl
       map-map′ (i ∷ is) = ap (λ l. i .local .0 ∷ l) (map-map′ is)
 
-      numbers : numbersIn d (front .ases) (length (p .interfaces)) ≡ map numberOf (p .interfaces)
+      numbers : numbersIn a 0 (length (p .interfaces)) ≡ map numberOf (p .interfaces)
       numbers =
           unfold numbersIn numberAt isdAsnAt in
-          (sym (map-map (λ k. isdAsnAt d (front .ases + 8 * k)) (range 0 (length (p .interfaces)))) ∙ ap (map number) ases-read ∙ map-map′ (p .interfaces))
+          (sym (map-map (λ k. isdAsnAt a (0 + 8 * k)) (range 0 (length (p .interfaces)))) ∙ ap (map number) ases-read ∙ map-map′ (p .interfaces))
 
   -- ---- the head
 
-  pub head-is : front .ases < front .ids → (x y z m e : ℕ) (g l : IsdAsn)
-      → x ≡ (front .hops - pathHeadSize) / infoSize → y ≡ (front .ases - front .hops) / hopSize → z ≡ (front .ids - front .ases) / 8
-      → m ≡ least maxMtu (flatMap (mtusOn b) c) → e ≡ least maxTime (map (expiryOn b) c)
-      → g ≡ isdAsnAt d (front .ases) → l ≡ isdAsnAt d (front .ids - 8)
+  pub head-is : 0 < ends .ases → (x y z m e : ℕ) (g l : IsdAsn)
+      → x ≡ length c → y ≡ (ends .hops - pathHeadSize - infoSize * length c) / hopSize → z ≡ ends .ases / 8
+      → m ≡ ends .mtu → e ≡ ends .expiry
+      → g ≡ isdAsnAt a 0 → l ≡ isdAsnAt a (ends .ases - 8)
       → record { infos = x; hops = y; interfaces = z; mtu = m; expiry = e; first = g; last = l } ≡ pathHead (combinedPath b c)
   unfolding pathHead combinedPath
   head-is some x y z m e g l qx qy qz qm qe qg ql =
-      let s = sizes in
+      let s = reach in
       let n : ℕ = length (p .interfaces) in
-      let n-is : front .ids ≡ front .ases + 8 * n = omega (arith, f .ids, s .ases) in
-      let first : g ≡ getD (p .interfaces) 0 noInterface .local = qg ∙ ap (isdAsnAt d) (omega arith) ∙ as-read 0 (omega arith) in
-      let last : l ≡ getD (p .interfaces) (n - 1) noInterface .local = ql ∙ ap (isdAsnAt d) (omega arith) ∙ as-read (n - 1) (omega arith) in
-      let infos : x ≡ length (p .infos) = qx ∙ infos-count .0 ∙ sym (length-map c (infoOn b)) in
+      let first : g ≡ getD (p .interfaces) 0 noInterface .local = qg ∙ ap (isdAsnAt a) (omega arith) ∙ as-read 0 (omega (arith, s .ases)) in
+      let last : l ≡ getD (p .interfaces) (n - 1) noInterface .local = ql ∙ ap (isdAsnAt a) (omega (arith, s .ases)) ∙ as-read (n - 1) (omega (arith, s .ases)) in
+      let infos : x ≡ length (p .infos) = qx ∙ sym (length-map c (infoOn b)) in
       λ k. record {
         infos = infos k;
         hops = (qy ∙ hops-count .0) k;
         interfaces = (qz ∙ interfaces-count .0) k;
-        mtu = qm k;
-        expiry = qe k;
+        mtu = (qm ∙ f .mtu) k;
+        expiry = (qe ∙ f .expiry) k;
         first = first k;
         last = last k;
       }
 
+  -- ---- the answer
+
+  told : (t : Bool) → t ≡ someFrequent (numbersIn a 0 (ends .ases / 8)) (numbersIn a 0 (ends .ases / 8)) → t ≡ isLoop (p .interfaces)
+  told t frequent = frequent ∙ loop-read
+
+  answer : (n : ℕ) (r : PathAnswer) → outcome p ≡ r → (d′ : List ℕ) → d′ ≡ leftBy r n p → (r ≡ pathAnswer b n c .0) × (d′ ≡ pathAnswer b n c .1)
+  unfolding pathAnswer
+  answer n r q d′ e = (sym q, e ∙ ap (λ x. leftBy x n p) (sym q))
+
+  module _ (d : List ℕ) (n : ℕ) (same : length d ≡ n) (t : Bool) (frequent : t ≡ someFrequent (numbersIn a 0 (ends .ases / 8)) (numbersIn a 0 (ends .ases / 8))) where
+    zeros : (d′ : List ℕ) → d′ ≡ zeroed d 0 → d′ ≡ replicate n 0
+    zeros d′ e = e ∙ zeroed-all d ∙ ap (λ k. replicate {A = ℕ} k 0) same
+
+    bare-is : (is : List PathInterface) → length is ≡ 0 → isBare is ≡ true
+    bare-is [] q = unfold isBare in refl
+    bare-is (i ∷ is) q = absurd (omega arith)
+
+    pub answer-loop : t ≡ true → (d′ : List ℕ) → d′ ≡ zeroed d 0
+        → (Loop ≡ pathAnswer b n c .0) × (d′ ≡ pathAnswer b n c .1)
+    answer-loop q d′ e = answer n Loop loops d′ (zeros d′ e)
+      where
+        loops : outcome p ≡ Loop
+        loops = unfold outcome in (ap (λ (s : Bool). if s then Loop else if isBare (p .interfaces) then Bare else Path) (sym (told t frequent) ∙ q))
+
+    pub answer-bare : t ≡ false → ends .ases / 8 ≡ 0 → (d′ : List ℕ) → d′ ≡ zeroed d 0
+        → (Bare ≡ pathAnswer b n c .0) × (d′ ≡ pathAnswer b n c .1)
+    answer-bare q none d′ e = answer n Bare bare d′ (zeros d′ e)
+      where
+        bare : outcome p ≡ Bare
+        bare =
+            unfold outcome in
+            (ap₂ (λ (s v : Bool). if s then Loop else if v then Bare else Path) (sym (told t frequent) ∙ q)
+            (bare-is (p .interfaces) (sym (interfaces-count .0) ∙ none)))
+
+  pub answer-path : (t : Bool) → t ≡ someFrequent (numbersIn a 0 (ends .ases / 8)) (numbersIn a 0 (ends .ases / 8)) → t ≡ false → (ends .ases / 8 ≡ 0 → ⊥)
+      → (m : ℕ) (d′ : List ℕ) → d′ ≡ padded m (pathOctets (combinedPath b c)) → (n : ℕ) → m ≡ n
+      → (Path ≡ pathAnswer b n c .0) × (d′ ≡ pathAnswer b n c .1)
+  answer-path t frequent q some m d′ e n same = answer n Path path d′ (e ∙ ap (λ k. padded k (pathOctets p)) same)
+    where
+      full-is : (is : List PathInterface) → (length is ≡ 0 → ⊥) → isBare is ≡ false
+      full-is [] h = absurd (h refl)
+      full-is (i ∷ is) h = unfold isBare in refl
+
+      path : outcome p ≡ Path
+      path =
+          unfold outcome in
+          (ap₂ (λ (s v : Bool). if s then Loop else if v then Bare else Path) (sym (told t frequent) ∙ q)
+          (full-is (p .interfaces) (λ z. some (interfaces-count .0 ∙ z))))
+
 -- ---- the whole
 
 -- the bytes before xs, and zeros after them
-filled-up : (before top xs d₁ d₂ d₃ : List ℕ) (end : ℕ) → Wrote before pathHeadSize xs d₁ end → length top ≡ pathHeadSize → pathHeadSize + length xs ≤ length before
+filled-up : (before top xs d₁ d₂ d₃ : List ℕ) (end : ℕ) → Appended before pathHeadSize xs d₁ end → length top ≡ pathHeadSize → end ≤ length before
     → d₂ ≡ written d₁ 0 top → d₃ ≡ zeroed d₂ end → d₃ ≡ padded (length before) (top ++ xs)
 unfolding padded
 filled-up before top xs d₁ d₂ d₃ end w l room q₂ q₃ =
@@ -309,13 +320,13 @@ filled-up before top xs d₁ d₂ d₃ end w l room q₂ q₃ =
     front = take pathHeadSize before
 
     rest : List ℕ
-    rest = drop (pathHeadSize + length xs) before
+    rest = drop end d₁
 
     short : length front ≡ pathHeadSize
-    short = length-take-le pathHeadSize before (omega arith)
+    short = length-take-le pathHeadSize before (omega (arith, w .end))
 
     first : d₁ ≡ front ++ (xs ++ rest)
-    first = w .bytes ∙ written-within before pathHeadSize xs room ∙ append-assoc front xs rest
+    first = sym (take-append-drop end d₁) ∙ ap (λ t. t ++ rest) (w .front) ∙ append-assoc front xs rest
 
     second : d₂ ≡ (top ++ xs) ++ rest
     second =
@@ -329,97 +340,66 @@ filled-up before top xs d₁ d₂ d₃ end w l room q₂ q₃ =
     ends = omega (arith, w .end, length-append top xs)
 
     left : length rest ≡ length before - length (top ++ xs)
-    left = omega (arith, length-drop (pathHeadSize + length xs) before, length-append top xs)
+    left = omega (arith, length-drop end d₁, w .size, w .end, length-append top xs)
 
 octets-are : (h i k x y : List ℕ) → (((h ++ i) ++ k) ++ x) ++ y ≡ h ++ (((i ++ k) ++ x) ++ y)
 octets-are h i k x y = simp append-assoc
 
-module _ (b : List ℕ) (bytes : Bytes b) (accepted : AcceptedBook b) (c : List Edge) (u : UsableEdges b c) (d : List ℕ) (front : Front)
-    (f : Fronted b c d front) (room : pathSize ≤ length d) where
+module _ (b : List ℕ) (bytes : Bytes b) (accepted : AcceptedBook b) (c : List Edge) (u : UsableEdges b c) (d a i : List ℕ) (ends : Ends)
+    (f : Drawn b c a ends) (g : Placed b c d i ends) (room : pathSize ≤ length d) where
   abbrev whole : CombinedPath
   whole = combinedPath b c
 
-  path-octets : pathOctets whole ≡ pathHeadOctets (pathHead whole) ++ (frontBytes b c ++ flatMap (edgeBytes b Ids) c)
-  unfolding pathOctets frontBytes
+  path-octets : pathOctets whole
+      ≡ pathHeadOctets (pathHead whole) ++ (((flatMap (infoBytes b) c ++ flatMap (edgeBytes b Hops) c) ++ flatMap (edgeBytes b Ases) c) ++ flatMap (edgeBytes b Ids) c)
+  unfolding pathOctets
   path-octets =
       octets-are (pathHeadOctets (pathHead whole)) _ _ _ _
       ∙ ap₂ (λ x y. pathHeadOctets (pathHead whole) ++ (x ++ y))
       (ap₂ (λ x y. x ++ y) (ap₂ (λ x y. x ++ y) (sym (infos-of b c)) (sym (hops-of b c))) (sym (ases-of b c)))
       (sym (ids-of b c))
 
-  pub whole-is : (d₁ : List ℕ) (end : ℕ) (h : PathHead) (d₂ d₃ : List ℕ) → Wrote d (front .ids) (flatMap (edgeBytes b Ids) c) d₁ end
-      → h ≡ pathHead (combinedPath b c) → d₂ ≡ written d₁ 0 (pathHeadOctets h) → d₃ ≡ zeroed d₂ end
-      → d₃ ≡ padded (length d) (pathOctets (combinedPath b c))
-  whole-is d₁ end h d₂ d₃ w q q₂ q₃ =
-      let s = lengths b bytes accepted c u in
-      let same : length d ≡ length (f .before) = same-length b bytes accepted c u d front f room in
-      filled-up (f .before) (pathHeadOctets (pathHead whole)) (frontBytes b c ++ flatMap (edgeBytes b Ids) c) d₁ d₂ d₃ end
-      (wrote-join (f .bytes) w) (head-length (pathHead whole))
-      (omega (
-        arith,
-        same,
-        length-append (frontBytes b c) (flatMap (edgeBytes b Ids) c),
-        front-length b bytes accepted c u d front f room,
-        s .infos,
-        s .hops,
-        s .ases,
-        s .ids,
-        s .few-infos,
-        s .few-hops,
-        s .few-interfaces,
-      ))
-      (q₂ ∙ ap (λ x. written d₁ 0 (pathHeadOctets x)) q) q₃
-      ∙ ap₂ padded (sym same) (sym path-octets)
+  -- the buffers have what is copied from them, and the output has room for it
+  pub ases-fit : ends .ases ≤ length a
+  ases-fit = omega (arith, f .ases-end, ap length (f .ases), length-take (ends .ases) a)
 
-  -- ---- the answer
+  pub ids-fit : ends .ids ≤ length i
+  ids-fit = omega (arith, f .ids-end, ap length (g .ids), length-take (ends .ids) i)
 
-  module _ (n : ℕ) (same : length d ≡ n) (t : Bool)
-      (frequent : t ≡ someFrequent (numbersIn d (front .ases) ((front .ids - front .ases) / 8)) (numbersIn d (front .ases) ((front .ids - front .ases) / 8))) where
-    told : t ≡ isLoop (whole .interfaces)
-    told = frequent ∙ loop-read b bytes accepted c u d front f room
+  pub whole-fits : ends .hops + ends .ases + ends .ids ≤ pathSize
+  whole-fits =
+      let s = reach b bytes accepted c u a ends f in
+      omega (arith, s .hops, s .ases, s .ids, s .few-infos, s .few-hops, s .few-interfaces)
 
-    answer : (r : PathAnswer) → outcome whole ≡ r → (d′ : List ℕ) → d′ ≡ leftBy r n whole
-        → (r ≡ pathAnswer b n c .0) × (d′ ≡ pathAnswer b n c .1)
-    unfolding pathAnswer
-    answer r q d′ e = (sym q, e ∙ ap (λ x. leftBy x n whole) (sym q))
+  pub whole-is : (d₁ d₂ d₃ d₄ d₅ : List ℕ) (r : ℕ) (h : PathHead) → Wrote d pathHeadSize (flatMap (infoBytes b) c) d₁ r
+      → d₂ ≡ written d₁ (ends .hops) (take (ends .ases) (drop 0 a)) → d₃ ≡ written d₂ (ends .hops + ends .ases) (take (ends .ids) (drop 0 i))
+      → h ≡ pathHead (combinedPath b c) → d₄ ≡ written d₃ 0 (pathHeadOctets h) → d₅ ≡ zeroed d₄ (ends .hops + ends .ases + ends .ids)
+      → d₅ ≡ padded (length d) (pathOctets (combinedPath b c))
+  whole-is d₁ d₂ d₃ d₄ d₅ r h w q₂ q₃ q q₄ q₅ =
+      filled-up (g .before) (pathHeadOctets (pathHead whole)) _ d₃ d₄ d₅ (ends .hops + ends .ases + ends .ids) third (head-length (pathHead whole)) fits
+      (q₄ ∙ ap (λ x. written d₃ 0 (pathHeadOctets x)) q) q₅
+      ∙ ap₂ padded (sym (g .hops .size)) (sym path-octets)
+    where
+      l : Lengths b c
+      l = lengths b bytes accepted c u
 
-    zeros : (d′ : List ℕ) → d′ ≡ zeroed d 0 → d′ ≡ replicate n 0
-    zeros d′ e = e ∙ zeroed-all d ∙ ap (λ k. replicate {A = ℕ} k 0) same
+      fits : ends .hops + ends .ases + ends .ids ≤ length (g .before)
+      fits = omega (arith, g .hops .size, whole-fits)
 
-    bare-is : (is : List PathInterface) → length is ≡ 0 → isBare is ≡ true
-    bare-is [] q = unfold isBare in refl
-    bare-is (i ∷ is) q = absurd (omega arith)
+      first : Appended (g .before) pathHeadSize (flatMap (infoBytes b) c ++ flatMap (edgeBytes b Hops) c) d₁ (ends .hops)
+      first = appended-before (g .hops) w (omega (arith, l .infos)) (omega (arith, fits, g .hops .size))
 
-    full-is : (is : List PathInterface) → (length is ≡ 0 → ⊥) → isBare is ≡ false
-    full-is [] h = absurd (h refl)
-    full-is (i ∷ is) h = unfold isBare in refl
+      second : Appended d₁ (ends .hops) (flatMap (edgeBytes b Ases) c) d₂ (ends .hops + ends .ases)
+      second =
+          appended-some d₁ (ends .hops) (flatMap (edgeBytes b Ases) c) d₂ (q₂ ∙ ap (written d₁ (ends .hops)) (f .ases))
+          (omega (arith, first .size, f .ases-end, fits)) (ends .ases) (sym (f .ases-end))
 
-    pub answer-loop : t ≡ true → (d′ : List ℕ) → d′ ≡ zeroed d 0
-        → (Loop ≡ pathAnswer b n c .0) × (d′ ≡ pathAnswer b n c .1)
-    answer-loop q d′ e = answer Loop loops d′ (zeros d′ e)
-      where
-        loops : outcome whole ≡ Loop
-        loops = unfold outcome in (ap (λ (s : Bool). if s then Loop else if isBare (whole .interfaces) then Bare else Path) (sym told ∙ q))
-
-    pub answer-bare : t ≡ false → (front .ids - front .ases) / 8 ≡ 0 → (d′ : List ℕ) → d′ ≡ zeroed d 0
-        → (Bare ≡ pathAnswer b n c .0) × (d′ ≡ pathAnswer b n c .1)
-    answer-bare q none d′ e = answer Bare bare d′ (zeros d′ e)
-      where
-        bare : outcome whole ≡ Bare
-        bare =
-            unfold outcome in
-            (ap₂ (λ (s v : Bool). if s then Loop else if v then Bare else Path) (sym told ∙ q)
-            (bare-is (whole .interfaces) (sym (interfaces-count b bytes accepted c u d front f room .0) ∙ none)))
-
-    pub answer-path : t ≡ false → ((front .ids - front .ases) / 8 ≡ 0 → ⊥) → (d′ : List ℕ) → d′ ≡ padded (length d) (pathOctets (combinedPath b c))
-        → (Path ≡ pathAnswer b n c .0) × (d′ ≡ pathAnswer b n c .1)
-    answer-path q some d′ e = answer Path path d′ (e ∙ ap (λ k. padded k (pathOctets whole)) same)
-      where
-        path : outcome whole ≡ Path
-        path =
-            unfold outcome in
-            (ap₂ (λ (s v : Bool). if s then Loop else if v then Bare else Path) (sym told ∙ q)
-            (full-is (whole .interfaces) (λ z. some (interfaces-count b bytes accepted c u d front f room .0 ∙ z))))
+      third : Appended (g .before) pathHeadSize (((flatMap (infoBytes b) c ++ flatMap (edgeBytes b Hops) c) ++ flatMap (edgeBytes b Ases) c) ++ flatMap (edgeBytes b Ids) c) d₃
+          (ends .hops + ends .ases + ends .ids)
+      third =
+          appended-join (appended-join first second)
+          (appended-some d₂ (ends .hops + ends .ases) (flatMap (edgeBytes b Ids) c) d₃ (q₃ ∙ ap (written d₂ (ends .hops + ends .ases)) (g .ids))
+          (omega (arith, second .size, first .size, f .ids-end, fits)) (ends .ids) (sym (f .ids-end)))
 
 -- ---- the bytes before the infos
 

@@ -1,32 +1,32 @@
 -- The interfaces and MTUs of one entry.
 -- Assumes nothing.
-use Prim.Native.Nat.{ℕ, _+_, _-_, _%_, _^_, min}
+use Prim.Native.Nat.{ℕ, _+_, _-_, _%_, _^_, _≤_, min}
 use native.Mathlib.Omega.{arith}
 use mathlib.Core.Path.{_≡_, refl, sym, ap, ap₂, _∙_}
 use mathlib.Core.Bool.{Bool, true, false, _&&_, _||_, not}
-use mathlib.Core.List.{List, [], _∷_, _++_, flatMap, reverse, reverse-append, append-nil}
-use lib.ListN.{take, drop}
+use mathlib.Core.List.{List, [], _∷_, _++_, flatMap, reverse, reverse-append, reverse-cons, append-nil}
+use lib.ListN.{length, take, drop}
 use lib.Dec.{eqb, ltb}
 use borrow.Author.Tests.{eqb-true, eqb-false, lt-ltb, eq-eqb, ne-eqb}
 use Rattle.spec.specs.declared.IsdAsn.{IsdAsn}
 use Rattle.spec.specs.declared.Edge.{Edge}
 use Rattle.spec.specs.Basics.{if_then_else_}
-use Rattle.spec.specs.Limits.{hopSize}
+use Rattle.spec.specs.Limits.{hopSize, maxMtu}
 use Rattle.spec.specs.Octets.{Bytes, octets2, octets8}
 use Rattle.spec.specs.Book.{Segment, asEntryAt, segmentAt}
 use Rattle.spec.specs.Edges.{entryOf, asOf, peerOf}
-use Rattle.spec.specs.Assembly.{least, isPeerEdge, atShortcut, isPeerHop, interfaceIf, mtusAt, interfacesAt, inDirection, hopOf, segmentOf}
+use Rattle.spec.specs.Assembly.{least, isPeerEdge, atShortcut, isPeerHop, interfaceIf, mtusAt, interfacesAt, inDirection, hopOf, unitsOf, segmentOf}
 use Rattle.spec.specs.Records.{hopOctets, asOctets, interfaceAsOctets, interfaceIdOctets}
 use Rattle.spec.proofs.Lists.{flatMap-append}
 use Rattle.spec.proofs.ByteLaws.{hop-length}
 use Rattle.spec.proofs.BookLaws.{hop-good}
 use Rattle.output.specs.Write.{written}
 use Rattle.output.proofs.Writing.{octets2-length, octets8-length}
-use Rattle.path.specs.Places.{isLeft, linkOffset, Here, Wrote}
+use Rattle.path.specs.Places.{isLeft, linkOffset, Here, Wrote, Appended}
 use Rattle.path.specs.Parts.{Hops, Ases, Ids, linkMtus, ingressShown, shownAs, asIf, idIf, interfacesHere, entryBytes}
 use Rattle.path.proofs.Copies.{link-copied}
 use Rattle.path.proofs.Standing.{link-hop, own-hop}
-use Rattle.path.proofs.Writes.{wrote-none, wrote-one, wrote-join, wrote-as}
+use Rattle.path.proofs.Writes.{wrote-one, appended-as, appended-join, appended-over, appended-some}
 
 and-true : (t : Bool) → (t && true) ≡ t
 and-true true = refl
@@ -139,30 +139,38 @@ module _ (b : List ℕ) (e : Edge) (m : ℕ) (a : IsdAsn) (x y : ℕ) (q : inter
       sym (ap (flatMap interfaceIdOctets) q ∙ flatMap-append interfaceIdOctets (shownAs a x) (shownAs a y) ∙ ap₂ (λ u v. u ++ v) (id-if a x) (id-if a y))
 
   -- two writes make an entry's part
-  pub ases-wrote : {d : List ℕ} {at : ℕ} {d′ : List ℕ} {r : ℕ} {d″ : List ℕ} {s : ℕ} → Wrote d at (asIf a x) d′ r → Wrote d′ r (asIf a y) d″ s
-      → Wrote d at (entryBytes b e Ases m) d″ s
-  ases-wrote v w = wrote-as ases-shown (wrote-join v w)
+  pub ases-appended : {d : List ℕ} {at : ℕ} {d′ : List ℕ} {r : ℕ} {d″ : List ℕ} {s : ℕ} → Appended d at (asIf a x) d′ r → Appended d′ r (asIf a y) d″ s
+      → Appended d at (entryBytes b e Ases m) d″ s
+  ases-appended v w = appended-as ases-shown (appended-join v w)
 
-  pub ids-wrote : {d : List ℕ} {at : ℕ} {d′ : List ℕ} {r : ℕ} {d″ : List ℕ} {s : ℕ} → Wrote d at (idIf x) d′ r → Wrote d′ r (idIf y) d″ s
-      → Wrote d at (entryBytes b e Ids m) d″ s
-  ids-wrote v w = wrote-as ids-shown (wrote-join v w)
+  pub ids-appended : {d : List ℕ} {at : ℕ} {d′ : List ℕ} {r : ℕ} {d″ : List ℕ} {s : ℕ} → Appended d at (idIf x) d′ r → Appended d′ r (idIf y) d″ s
+      → Appended d at (entryBytes b e Ids m) d″ s
+  ids-appended v w = appended-as ids-shown (appended-join v w)
 
 -- what is written of one interface
-pub as-none : (d : List ℕ) (at : ℕ) (a : IsdAsn) (i : ℕ) → i ≡ 0 → Wrote d at (asIf a i) d at
-unfolding asIf
-as-none d at a i q = rw (eq-eqb i 0 q) (wrote-none d at)
+module _ (d : List ℕ) (at : ℕ) (a : IsdAsn) (i : ℕ) (d′ : List ℕ) (q : d′ ≡ written d at (octets8 (a .0))) (room : at + 8 ≤ length d) where
+  as-fits : at + length (octets8 (a .0)) ≤ length d
+  as-fits = omega (arith, octets8-length (a .0))
 
-pub as-some : (d : List ℕ) (at : ℕ) (a : IsdAsn) (i : ℕ) (d′ : List ℕ) → (i ≡ 0 → ⊥) → d′ ≡ written d at (octets8 (a .0)) → Wrote d at (asIf a i) d′ (at + 8)
-unfolding asIf asOctets
-as-some d at a i d′ f q = rw (ne-eqb i 0 f) (wrote-one d at (octets8 (a .0)) d′ 8 (at + 8) q (octets8-length (a .0)) refl)
+  pub as-none : i ≡ 0 → Appended d at (asIf a i) d′ at
+  unfolding asIf
+  as-none z = rw (eq-eqb i 0 z) (appended-over d at (octets8 (a .0)) d′ q as-fits)
 
-pub id-none : (d : List ℕ) (at i : ℕ) → i ≡ 0 → Wrote d at (idIf i) d at
-unfolding idIf
-id-none d at i q = rw (eq-eqb i 0 q) (wrote-none d at)
+  pub as-some : (i ≡ 0 → ⊥) → Appended d at (asIf a i) d′ (at + 8)
+  unfolding asIf asOctets
+  as-some f = rw (ne-eqb i 0 f) (appended-some d at (octets8 (a .0)) d′ q as-fits 8 (octets8-length (a .0)))
 
-pub id-some : (d : List ℕ) (at i : ℕ) (d′ : List ℕ) → (i ≡ 0 → ⊥) → d′ ≡ written d at (octets2 i) → Wrote d at (idIf i) d′ (at + 2)
-unfolding idIf
-id-some d at i d′ f q = rw (ne-eqb i 0 f) (wrote-one d at (octets2 i) d′ 2 (at + 2) q (octets2-length i) refl)
+module _ (d : List ℕ) (at i : ℕ) (d′ : List ℕ) (q : d′ ≡ written d at (octets2 i)) (room : at + 2 ≤ length d) where
+  id-fits : at + length (octets2 i) ≤ length d
+  id-fits = omega (arith, octets2-length i)
+
+  pub id-none : i ≡ 0 → Appended d at (idIf i) d′ at
+  unfolding idIf
+  id-none z = rw (eq-eqb i 0 z) (appended-over d at (octets2 i) d′ q id-fits)
+
+  pub id-some : (i ≡ 0 → ⊥) → Appended d at (idIf i) d′ (at + 2)
+  unfolding idIf
+  id-some f = rw (ne-eqb i 0 f) (appended-some d at (octets2 i) d′ q id-fits 2 (octets2-length i))
 
 -- ---- MTUs
 
@@ -175,38 +183,71 @@ pub least-one : (x y : ℕ) → least x (y ∷ []) ≡ min x y
 unfolding least
 least-one x y = refl
 
-module _ (seg : Segment) (e : Edge) (m x : ℕ) where
+pub units-one : (seg : Segment) (e : Edge) (m x y r : ℕ) → r ≡ min x y → y ≡ hopOf seg e m .units → r ≡ least x (unitsOf (hopOf seg e m) ∷ [])
+unfolding least unitsOf
+units-one seg e m x y r q p = q ∙ ap (min x) p
+
+-- the order of numbers does not matter to the least of them
+pub least-min : (x y : ℕ) (xs : List ℕ) → least (min x y) xs ≡ min (least x xs) y
+unfolding least
+least-min x y [] = refl
+least-min x y (z ∷ xs) =
+    let q : min (min x y) z ≡ min (min x z) y = omega arith in
+    ap (λ n. least n xs) q ∙ least-min (min x z) y xs
+
+least-turn : (x : ℕ) (xs ys : List ℕ) → least (least x xs) ys ≡ least (least x ys) xs
+unfolding least
+least-turn x [] ys = refl
+least-turn x (z ∷ xs) ys = least-turn (min x z) xs ys ∙ ap (λ n. least n xs) (least-min x z ys)
+
+pub least-reverse : {A : Type 0} (f : A → List ℕ) (x : ℕ) (xs : List A) → least x (flatMap f (reverse xs)) ≡ least x (flatMap f xs)
+unfolding flatMap
+least-reverse f x [] = refl
+least-reverse f x (a ∷ xs) =
+    ap (λ l. least x (flatMap f l)) (reverse-cons a xs)
+    ∙ ap (least x) (flatMap-append f (reverse xs) (a ∷ []))
+    ∙ least-append x (flatMap f (reverse xs)) (flatMap f (a ∷ []))
+    ∙ ap₂ (λ n l. least n l) (least-reverse f x xs) (append-nil (f a))
+    ∙ least-turn x (flatMap f xs) (f a)
+    ∙ sym (least-append x (f a) (flatMap f xs))
+
+module _ (seg : Segment) (e : Edge) (m : ℕ) where
   abbrev ingressMtu : ℕ
   ingressMtu = entryOf seg m .own .«ingress_mtu»
 
-  pub link-peer : isPeerHop e m ≡ true → min x (peerOf seg m (e .peer - 1) .mtu) ≡ least x (linkMtus seg e m)
+  pub link-peer : isPeerHop e m ≡ true → (r : ℕ) → r ≡ peerOf seg m (e .peer - 1) .mtu → r ≤ maxMtu → r ≡ least maxMtu (linkMtus seg e m)
   unfolding linkMtus least
-  link-peer q = rw q
+  link-peer q r p h = rw q (omega arith)
 
-  pub link-left : isPeerHop e m ≡ false → isLeft e m ≡ true → x ≡ least x (linkMtus seg e m)
+  pub link-left : isPeerHop e m ≡ false → isLeft e m ≡ true → maxMtu ≡ least maxMtu (linkMtus seg e m)
   unfolding linkMtus least
   link-left q l = rw (q, l) (go (eqb ingressMtu 0))
     where
-      go : (t : Bool) → x ≡ least x (if t || true then [] else ingressMtu ∷ [])
+      go : (t : Bool) → maxMtu ≡ least maxMtu (if t || true then [] else ingressMtu ∷ [])
       go true = refl
       go false = refl
 
-  pub link-unknown : isPeerHop e m ≡ false → entryOf seg m .own .«ingress_mtu» ≡ 0 → x ≡ least x (linkMtus seg e m)
+  pub link-inner : isPeerHop e m ≡ false → isLeft e m ≡ false → (x r : ℕ) → x ≡ entryOf seg m .own .«ingress_mtu» → x ≤ maxMtu
+      → (x ≡ 0 → r ≡ maxMtu) × ((x ≡ 0 → ⊥) → r ≡ x) → r ≡ least maxMtu (linkMtus seg e m)
   unfolding linkMtus least
-  link-unknown q z = rw (q, eq-eqb ingressMtu 0 z)
-
-  pub link-known : isPeerHop e m ≡ false → isLeft e m ≡ false → (entryOf seg m .own .«ingress_mtu» ≡ 0 → ⊥)
-      → min x (entryOf seg m .own .«ingress_mtu») ≡ least x (linkMtus seg e m)
-  unfolding linkMtus least
-  link-known q l f = rw (q, ne-eqb ingressMtu 0 f, l)
+  link-inner q l x r p h t = rw (q, l, sym p) (go (eqb x 0) refl)
+    where
+      go : (s : Bool) → eqb x 0 ≡ s → r ≡ least maxMtu (if s || false then [] else x ∷ [])
+      go true z = t .0 (eqb-true x 0 z)
+      go false z = let f = t .1 (eqb-false x 0 z) in omega arith
 
   mtus-split : mtusAt seg e m ≡ linkMtus seg e m ++ (entryOf seg m .own .mtu % 2 ^ 16 ∷ [])
   unfolding mtusAt linkMtus isLeft
   mtus-split = refl
 
-  pub mtus-both : min (least x (linkMtus seg e m)) (entryOf seg m .own .mtu % 2 ^ 16) ≡ least x (mtusAt seg e m)
-  mtus-both =
-      sym (ap (least x) mtus-split ∙ least-append x (linkMtus seg e m) (entryOf seg m .own .mtu % 2 ^ 16 ∷ []) ∙ least-one (least x (linkMtus seg e m)) (entryOf seg m .own .mtu % 2 ^ 16))
+  pub mtus-both : (x : ℕ) → x ≤ maxMtu → min (min x (least maxMtu (linkMtus seg e m))) (entryOf seg m .own .mtu % 2 ^ 16) ≡ least x (mtusAt seg e m)
+  mtus-both x h =
+      let l : List ℕ = linkMtus seg e m in
+      let a : ℕ = entryOf seg m .own .mtu % 2 ^ 16 in
+      let q : min maxMtu x ≡ x = omega arith in
+      let s : min x (least maxMtu l) ≡ min (least maxMtu l) x = omega arith in
+      ap (λ n. min n a) (s ∙ sym (least-min maxMtu x l) ∙ ap (λ n. least n l) q)
+      ∙ sym (ap (least x) mtus-split ∙ least-append x l (a ∷ []) ∙ least-one (least x l) a)
 
 -- ---- hops
 

@@ -25,10 +25,11 @@ use Rattle.spec.proofs.ByteLaws.{info-length}
 use Rattle.spec.proofs.RouterLaws.{idBelow-next}
 use Rattle.output.specs.Write.{written}
 use Rattle.path.specs.Usable.{Usable}
-use Rattle.path.specs.Places.{Here, Wrote, entryFrom, passed, fromLeaf}
-use Rattle.path.specs.Parts.{Part, Hops, Ases, Ids, infoBytes, interfacesHere, entryBytes, edgeBytes, walked, unitsPassed, mtusPassed, stopFrom, flagsOf}
-use Rattle.path.proofs.Writes.{wrote-none, wrote-one, wrote-join, wrote-as}
-use Rattle.path.proofs.Showing.{least-append, least-one}
+use Rattle.path.specs.declared.entry.Walk.{Walk}
+use Rattle.path.specs.Places.{Here, Wrote, entryFrom, passed}
+use Rattle.path.specs.Parts.{Part, Hops, Ases, Ids, infoBytes, interfacesHere, entryBytes, edgeBytes, walked, walkedUnits, walkedMtus, stopFrom, flagsOf, Walked, EntryWalked, EdgeWalked}
+use Rattle.path.proofs.Writes.{wrote-one, appended-none, appended-join, appended-as}
+use Rattle.path.proofs.Showing.{least-append, least-reverse}
 
 -- ---- lists
 
@@ -83,15 +84,7 @@ module _ (b : List ℕ) (e : Edge) where
   unfolding passed
   passed-more j = range-more (entryFrom e (length (segmentOf b e .entries))) j
 
-  leaf-more : (j : ℕ) → fromLeaf b e (j + 1) ≡ fromLeaf b e j ++ ((n - 1 - j) ∷ [])
-  unfolding fromLeaf
-  leaf-more j = range-more (λ i. length (segmentOf b e .entries) - 1 - i) j
-
   module _ (u : Usable b e) where
-    leaf-all : fromLeaf b e (hopCount seg e) ≡ usedEntries seg e
-    unfolding fromLeaf usedEntries hopCount
-    leaf-all = range-down (e .shortcut) (n - e .shortcut) n (omega (arith, u .shortcut))
-
     used-entries : passed b e (hopCount seg e) ≡ inDirection (e .construction) (usedEntries seg e)
     unfolding passed entryFrom
     used-entries = go (e .construction)
@@ -103,7 +96,7 @@ module _ (b : List ℕ) (e : Edge) where
             ∙ sym (reverse-reverse (range (e .shortcut) (hopCount seg e))))
 
         down : map (λ j. n - 1 - j) (range 0 (hopCount seg e)) ≡ usedEntries seg e
-        down = unfold fromLeaf in leaf-all
+        down = unfold usedEntries hopCount in range-down (e .shortcut) (n - e .shortcut) n (omega (arith, u .shortcut))
 
         go : (t : Bool) → map (λ j. if t then e .shortcut + j else n - 1 - j) (range 0 (hopCount seg e)) ≡ inDirection t (usedEntries seg e)
         go true = unfold inDirection in up
@@ -130,55 +123,88 @@ module _ (b : List ℕ) (e : Edge) where
         unfold walked edgeBytes entryBytes in
         (sym (flat-flat (interfacesHere b e) interfaceIdOctets (passed b e (hopCount seg e))) ∙ ap (flatMap interfaceIdOctets) (sym interfaces-on))
 
--- ---- a part
+-- ---- the hops one after the other
 
 pub hops-are : (b : List ℕ) (e : Edge) (n j : ℕ) → n ≡ length (segmentOf b e .entries) → j ≡ n - e .shortcut → j ≡ hopCount (segmentOf b e) e
 unfolding hopCount
 hops-are b e n j q r = r ∙ ap (λ k. k - e .shortcut) q
 
-module _ (b : List ℕ) (e : Edge) (part : Part) where
-  pub walk-none : (d : List ℕ) (at : ℕ) → Wrote d at (walked b e part 0) d at
-  unfolding walked passed range flatMap
-  walk-none d at = wrote-none d at
-
-  pub walk-more : (j m : ℕ) {d : List ℕ} {at : ℕ} {d′ : List ℕ} {to : ℕ} {d″ : List ℕ} {r : ℕ} → Wrote d at (walked b e part j) d′ to → m ≡ entryFrom e (length (segmentOf b e .entries)) j
-      → Wrote d′ to (entryBytes b e part m) d″ r → Wrote d at (walked b e part (j + 1)) d″ r
+module _ (b : List ℕ) (e : Edge) where
+  -- one more hop
+  part-more : (part : Part) (j m : ℕ) → m ≡ entryFrom e (length (segmentOf b e .entries)) j → walked b e part j ++ entryBytes b e part m ≡ walked b e part (j + 1)
   unfolding walked
-  walk-more j m v q w =
-      wrote-as
-      (ap (λ l. flatMap (entryBytes b e part) (passed b e j) ++ l) (sym (flat-one (entryBytes b e part) m))
+  part-more part j m q =
+      ap (λ l. flatMap (entryBytes b e part) (passed b e j) ++ l) (sym (flat-one (entryBytes b e part) m))
       ∙ sym (flatMap-append (entryBytes b e part) (passed b e j) (m ∷ []))
-      ∙ ap (flatMap (entryBytes b e part)) (ap (λ i. passed b e j ++ (i ∷ [])) q ∙ sym (passed-more b e j)))
-      (wrote-join v w)
+      ∙ ap (flatMap (entryBytes b e part)) (ap (λ i. passed b e j ++ (i ∷ [])) q ∙ sym (passed-more b e j))
 
-  pub walk-all : Usable b e → (j : ℕ) {d : List ℕ} {at : ℕ} {d′ : List ℕ} {to : ℕ} → j ≡ hopCount (segmentOf b e) e → Wrote d at (walked b e part j) d′ to
-      → Wrote d at (edgeBytes b part e) d′ to
-  walk-all u j q v = wrote-as (ap (walked b e part) q ∙ walk-end b e u part) v
+  mtus-more : (j m : ℕ) → m ≡ entryFrom e (length (segmentOf b e .entries)) j → walkedMtus b e j ++ mtusAt (segmentOf b e) e m ≡ walkedMtus b e (j + 1)
+  unfolding walkedMtus
+  mtus-more j m q =
+      ap (λ l. flatMap (mtusAt (segmentOf b e) e) (passed b e j) ++ l) (sym (flat-one (mtusAt (segmentOf b e) e) m))
+      ∙ sym (flatMap-append (mtusAt (segmentOf b e) e) (passed b e j) (m ∷ []))
+      ∙ ap (flatMap (mtusAt (segmentOf b e) e)) (ap (λ i. passed b e j ++ (i ∷ [])) q ∙ sym (passed-more b e j))
 
--- ---- units and expiry
+  units-more : (j m : ℕ) → m ≡ entryFrom e (length (segmentOf b e .entries)) j → walkedUnits b e j ++ (unitsOf (hopOf (segmentOf b e) e m) ∷ []) ≡ walkedUnits b e (j + 1)
+  unfolding walkedUnits
+  units-more j m q =
+      let f : ℕ → HopField = hopOf (segmentOf b e) e in
+      sym (map-append unitsOf (map f (passed b e j)) (f m ∷ []))
+      ∙ ap (map unitsOf) (sym (map-append f (passed b e j) (m ∷ [])))
+      ∙ ap (λ l. map unitsOf (map f l)) (ap (λ i. passed b e j ++ (i ∷ [])) q ∙ sym (passed-more b e j))
+
+  pub walk-none : (o a i : List ℕ) (w : Walk) → Walked (λ part. walked b e part 0) (walkedMtus b e 0) (walkedUnits b e 0) o o a a i i w w
+  unfolding walked walkedMtus walkedUnits passed range flatMap least
+  walk-none o a i w =
+      record { hops = appended-none o (w .hops); ases = appended-none a (w .ases); ids = appended-none i (w .ids); mtu = refl; units = refl }
+
+  pub walk-more : (j m : ℕ) → m ≡ entryFrom e (length (segmentOf b e .entries)) j
+      → {o o₁ o₂ a a₁ a₂ i i₁ i₂ : List ℕ} {w w₁ w₂ : Walk}
+      → Walked (λ part. walked b e part j) (walkedMtus b e j) (walkedUnits b e j) o o₁ a a₁ i i₁ w w₁
+      → EntryWalked b e m o₁ o₂ a₁ a₂ i₁ i₂ w₁ w₂
+      → Walked (λ part. walked b e part (j + 1)) (walkedMtus b e (j + 1)) (walkedUnits b e (j + 1)) o o₂ a a₂ i i₂ w w₂
+  walk-more j m q {w = w} v x =
+      record {
+        hops = appended-as (part-more Hops j m q) (appended-join (v .hops) (x .hops));
+        ases = appended-as (part-more Ases j m q) (appended-join (v .ases) (x .ases));
+        ids = appended-as (part-more Ids j m q) (appended-join (v .ids) (x .ids));
+        mtu =
+            x .mtu ∙ ap (λ n. least n (mtusAt (segmentOf b e) e m)) (v .mtu)
+            ∙ sym (least-append (w .mtu) (walkedMtus b e j) (mtusAt (segmentOf b e) e m)) ∙ ap (least (w .mtu)) (mtus-more j m q);
+        units =
+            x .units ∙ ap (λ n. least n (unitsOf (hopOf (segmentOf b e) e m) ∷ [])) (v .units)
+            ∙ sym (least-append (w .units) (walkedUnits b e j) (unitsOf (hopOf (segmentOf b e) e m) ∷ [])) ∙ ap (least (w .units)) (units-more j m q);
+      }
+
+  module _ (u : Usable b e) where
+    least-mtus : (x : ℕ) → least x (walkedMtus b e (hopCount (segmentOf b e) e)) ≡ least x (mtusOn b e)
+    unfolding walkedMtus mtusOn mtusOf
+    least-mtus x =
+        ap (λ l. least x (flatMap (mtusAt (segmentOf b e) e) l)) (used-entries b e u) ∙ go (e .construction)
+      where
+        go : (t : Bool) → least x (flatMap (mtusAt (segmentOf b e) e) (inDirection t (usedEntries (segmentOf b e) e))) ≡ least x (flatMap (mtusAt (segmentOf b e) e) (usedEntries (segmentOf b e) e))
+        go true = unfold inDirection in least-reverse (mtusAt (segmentOf b e) e) x (usedEntries (segmentOf b e) e)
+        go false = unfold inDirection in refl
+
+    all-units : walkedUnits b e (hopCount (segmentOf b e) e) ≡ map unitsOf (hopsOn b e)
+    unfolding walkedUnits
+    all-units = ap (map unitsOf) (sym (hops-on b e u))
+
+    pub walk-all : (j : ℕ) → j ≡ hopCount (segmentOf b e) e → {o o′ a a′ i i′ : List ℕ} {w w′ : Walk}
+        → Walked (λ part. walked b e part j) (walkedMtus b e j) (walkedUnits b e j) o o′ a a′ i i′ w w′
+        → EdgeWalked b e o o′ a a′ i i′ w w′
+    walk-all j q {w = w} v =
+        record {
+          hops = appended-as (ap (walked b e Hops) q ∙ walk-end b e u Hops) (v .hops);
+          ases = appended-as (ap (walked b e Ases) q ∙ walk-end b e u Ases) (v .ases);
+          ids = appended-as (ap (walked b e Ids) q ∙ walk-end b e u Ids) (v .ids);
+          mtu = v .mtu ∙ ap (λ k. least (w .mtu) (walkedMtus b e k)) q ∙ least-mtus (w .mtu);
+          units = v .units ∙ ap (λ k. least (w .units) (walkedUnits b e k)) q ∙ ap (least (w .units)) all-units;
+        }
+
+-- ---- expiry
 
 module _ (b : List ℕ) (e : Edge) where
-  pub units-none : 255 ≡ unitsPassed b e 0
-  unfolding unitsPassed passed range least
-  units-none = refl
-
-  pub units-more : (x j m : ℕ) → x ≡ unitsPassed b e j → m ≡ entryFrom e (length (segmentOf b e .entries)) j → min x (hopOf (segmentOf b e) e m .units) ≡ unitsPassed b e (j + 1)
-  unfolding unitsPassed unitsOf
-  units-more x j m p q =
-      let f : ℕ → HopField = hopOf (segmentOf b e) e in
-      ap₂ (λ y i. min y (f i .units)) p q
-      ∙ sym (least-one (least 255 (map unitsOf (map f (passed b e j)))) (f (entryFrom e (length (segmentOf b e .entries)) j) .units))
-      ∙ sym (least-append 255 (map unitsOf (map f (passed b e j))) (f (entryFrom e (length (segmentOf b e .entries)) j) .units ∷ []))
-      ∙ ap (least 255) (sym (map-append unitsOf (map f (passed b e j)) (f (entryFrom e (length (segmentOf b e .entries)) j) ∷ [])))
-      ∙ ap (λ l. least 255 (map unitsOf l)) (sym (map-append f (passed b e j) (entryFrom e (length (segmentOf b e .entries)) j ∷ [])))
-      ∙ ap (λ l. least 255 (map unitsOf (map f l))) (sym (passed-more b e j))
-
-  pub units-all : Usable b e → (x j : ℕ) → x ≡ unitsPassed b e j → j ≡ hopCount (segmentOf b e) e → x ≡ least 255 (map unitsOf (hopsOn b e))
-  unfolding unitsPassed
-  units-all u x j p q =
-      p ∙ ap (λ i. least 255 (map unitsOf (map (hopOf (segmentOf b e) e) (passed b e i)))) q
-      ∙ ap (λ l. least 255 (map unitsOf l)) (sym (hops-on b e u))
-
   module _ (t x l : ℕ) (p : t ≡ segmentOf b e .timestamp) (q : x ≡ least 255 (map unitsOf (hopsOn b e))) (r : l ≡ life x) where
     expiry-is : min maxTime (t + l) ≡ expiryOn b e
     unfolding expiryOn expiryOf hopsOn
@@ -189,28 +215,6 @@ module _ (b : List ℕ) (e : Edge) where
 
     pub expiry-soon : l ≤ maxTime - t → t ≤ maxTime → t + l ≡ expiryOn b e
     expiry-soon h k = omega (arith, expiry-is)
-
-  -- ---- MTUs
-
-  pub mtus-none : (x : ℕ) → x ≡ mtusPassed b e x 0
-  unfolding mtusPassed fromLeaf range flatMap least
-  mtus-none x = refl
-
-  pub mtus-more : (x y j m : ℕ) → y ≡ mtusPassed b e x j → m ≡ length (segmentOf b e .entries) - 1 - j
-      → least y (mtusAt (segmentOf b e) e m) ≡ mtusPassed b e x (j + 1)
-  unfolding mtusPassed
-  mtus-more x y j m p q =
-      let f : ℕ → List ℕ = mtusAt (segmentOf b e) e in
-      let i : ℕ = length (segmentOf b e .entries) - 1 - j in
-      ap₂ (λ z k. least z (f k)) p q
-      ∙ ap (least (least x (flatMap f (fromLeaf b e j)))) (sym (flat-one f i))
-      ∙ sym (least-append x (flatMap f (fromLeaf b e j)) (flatMap f (i ∷ [])))
-      ∙ ap (least x) (sym (flatMap-append f (fromLeaf b e j) (i ∷ []))) ∙ ap (λ l. least x (flatMap f l)) (sym (leaf-more b e j))
-
-  pub mtus-all : Usable b e → (x y j : ℕ) → y ≡ mtusPassed b e x j → j ≡ hopCount (segmentOf b e) e → y ≡ least x (mtusOn b e)
-  unfolding mtusPassed mtusOn mtusOf
-  mtus-all u x y j p q =
-      p ∙ ap (λ i. least x (flatMap (mtusAt (segmentOf b e) e) (fromLeaf b e i))) q ∙ ap (λ l. least x (flatMap (mtusAt (segmentOf b e) e) l)) (leaf-all b e u)
 
   -- ---- ids
 

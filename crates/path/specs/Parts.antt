@@ -1,6 +1,7 @@
 -- What a path's record holds of an entry, of an edge and of a chain.
 -- Assumes nothing.
 use Prim.Native.Nat.{ℕ, _+_, _-_, _*_}
+use mathlib.Core.Path.{_≡_}
 use mathlib.Core.Bool.{_&&_, _||_, not}
 use mathlib.Core.List.{List, [], _∷_, map, flatMap}
 use lib.Dec.{eqb}
@@ -11,8 +12,9 @@ use Rattle.spec.specs.Basics.{if_then_else_}
 use Rattle.spec.specs.Octets.{octets2}
 use Rattle.spec.specs.Book.{Segment}
 use Rattle.spec.specs.Edges.{entryOf, peerOf}
-use Rattle.path.specs.Places.{isLeft, passed, fromLeaf}
-use Rattle.spec.specs.Assembly.{least, unitsOf, mtusAt, isPeerEdge, isPeerHop, interfaceIf, interfacesAt, inDirection, hopOf, segmentOf, infoOn, hopsOn, interfacesOn}
+use Rattle.path.specs.declared.entry.Walk.{Walk}
+use Rattle.path.specs.Places.{isLeft, passed, Appended}
+use Rattle.spec.specs.Assembly.{least, unitsOf, mtusAt, isPeerEdge, isPeerHop, interfaceIf, interfacesAt, inDirection, hopOf, segmentOf, infoOn, hopsOn, interfacesOn, mtusOn}
 use Rattle.spec.specs.Records.{bit, infoOctets, hopOctets, asOctets, interfaceAsOctets, interfaceIdOctets}
 
 -- the parts of a path's record that go by entries
@@ -56,13 +58,12 @@ module _ (b : List ℕ) (e : Edge) where
   unfoldable pub walked : Part → ℕ → List ℕ
   walked part j = flatMap (entryBytes part) (passed b e j)
 
-  -- the least units among the first j hops
-  unfoldable pub unitsPassed : ℕ → ℕ
-  unitsPassed j = least 255 (map unitsOf (map (hopOf (segmentOf b e) e) (passed b e j)))
+  -- the units and the MTUs of the first j hops
+  unfoldable pub walkedUnits : ℕ → List ℕ
+  walkedUnits j = map unitsOf (map (hopOf (segmentOf b e) e) (passed b e j))
 
-  -- the least of x and the MTUs of the first j entries from the leaf down
-  unfoldable pub mtusPassed : ℕ → ℕ → ℕ
-  mtusPassed x j = least x (flatMap (mtusAt (segmentOf b e) e) (fromLeaf b e j))
+  unfoldable pub walkedMtus : ℕ → List ℕ
+  walkedMtus j = flatMap (mtusAt (segmentOf b e) e) (passed b e j)
 
 -- where the fold of the segment id stops: below the first hop's entry k, or past it where its hop is a peer's
 unfoldable pub stopFrom : Edge → ℕ → ℕ
@@ -78,3 +79,18 @@ unfoldable pub edgeBytes : List ℕ → Part → Edge → List ℕ
 edgeBytes b Hops e = flatMap hopOctets (hopsOn b e)
 edgeBytes b Ases e = flatMap interfaceAsOctets (interfacesOn b e)
 edgeBytes b Ids e = flatMap interfaceIdOctets (interfacesOn b e)
+
+-- the parts are appended, each to its buffer, and MTU and units are the least of those so far and of some more
+pub record Walked (part : Part → List ℕ) (mtus lives : List ℕ) (o o′ a a′ i i′ : List ℕ) (w w′ : Walk) : Type 0 where
+  pub hops : Appended o (w .hops) (part Hops) o′ (w′ .hops)
+  pub ases : Appended a (w .ases) (part Ases) a′ (w′ .ases)
+  pub ids : Appended i (w .ids) (part Ids) i′ (w′ .ids)
+  pub mtu : w′ .mtu ≡ least (w .mtu) mtus
+  pub units : w′ .units ≡ least (w .units) lives
+
+-- what an entry and what an edge give
+abbrev pub EntryWalked : List ℕ → Edge → ℕ → (o o′ a a′ i i′ : List ℕ) → Walk → Walk → Type 0
+EntryWalked b e m = Walked (λ part. entryBytes b e part m) (mtusAt (segmentOf b e) e m) (unitsOf (hopOf (segmentOf b e) e m) ∷ [])
+
+abbrev pub EdgeWalked : List ℕ → Edge → (o o′ a a′ i i′ : List ℕ) → Walk → Walk → Type 0
+EdgeWalked b e = Walked (λ part. edgeBytes b part e) (mtusOn b e) (map unitsOf (hopsOn b e))

@@ -3,8 +3,8 @@
 use Prim.Native.Nat.{ℕ, _+_, _-_, _<_, _≤_}
 use mathlib.Core.Path.{_≡_}
 use mathlib.Core.Bool.{Bool, true, _&&_}
-use mathlib.Core.List.{List, map}
-use lib.ListN.{length}
+use mathlib.Core.List.{List, _++_, map}
+use lib.ListN.{length, take}
 use lib.Dec.{ltb}
 use Rattle.spec.specs.declared.Edge.{Edge}
 use Rattle.spec.specs.Limits.{entrySize, peerSize}
@@ -42,11 +42,13 @@ module _ (b : List ℕ) (e : Edge) where
   unfoldable pub passed : ℕ → List ℕ
   passed j = map (entryFrom e (length (segmentOf b e .entries))) (range 0 j)
 
-  -- the first j entries from the leaf down
-  unfoldable pub fromLeaf : ℕ → List ℕ
-  fromLeaf j = map (λ i. length (segmentOf b e .entries) - 1 - i) (range 0 j)
-
 -- xs stand in d from `at` up to r
 pub record Wrote (d : List ℕ) (at : ℕ) (xs d′ : List ℕ) (r : ℕ) : Type 0 where
   pub bytes : d′ ≡ written d at xs
   pub end : r ≡ at + length xs
+
+-- xs stand in d′ up to r, after what stood in d up to `at`; what follows is anything
+pub record Appended (d : List ℕ) (at : ℕ) (xs d′ : List ℕ) (r : ℕ) : Type 0 where
+  pub front : take r d′ ≡ take at d ++ xs
+  pub end : r ≡ at + length xs
+  pub size : length d′ ≡ length d

@@ -3,18 +3,19 @@
 use Prim.Native.Nat.{ℕ, _+_, _-_, _*_, _≤_, _<_}
 use mathlib.Core.Path.{_≡_}
 use mathlib.Core.Bool.{Bool, false, _||_}
-use mathlib.Core.List.{List, [], _∷_, _++_, map, flatMap, List·Memᴰ as Mem}
-use lib.ListN.{length}
+use mathlib.Core.List.{List, [], _∷_, map, flatMap, List·Memᴰ as Mem}
+use lib.ListN.{length, take}
 use lib.Dec.{eqb, ltb}
 use Rattle.spec.specs.declared.Edge.{Edge}
-use Rattle.spec.specs.Limits.{maxEdges, solutionSize, pathHeadSize}
+use Rattle.spec.specs.Limits.{maxEdges, maxMtu, maxTime, solutionSize, pathHeadSize, infoSize}
 use Rattle.spec.specs.Basics.{any, filter, range}
 use Rattle.spec.specs.Octets.{be64}
+use Rattle.spec.specs.Assembly.{least, mtusOn, expiryOn}
 use Rattle.spec.specs.Records.{recordEdge}
-use Rattle.path.specs.declared.record.Front.{Front}
+use Rattle.path.specs.declared.record.Ends.{Ends}
 use Rattle.path.specs.Usable.{edgeBy, Usable}
-use Rattle.path.specs.Places.{Wrote}
-use Rattle.path.specs.Parts.{Hops, Ases, infoBytes, edgeBytes}
+use Rattle.path.specs.Places.{Appended}
+use Rattle.path.specs.Parts.{Hops, Ases, Ids, edgeBytes}
 
 -- edge k of a record, and its first edges
 unfoldable pub edgeIn : List ℕ → ℕ → Edge
@@ -65,14 +66,17 @@ pub record Run (d : List ℕ) (at n x r : ℕ) : Type 0 where
   pub room : r ≤ n
   pub rest : someRepeated (numbersIn d at n) ≡ (ltb (2 - r) (timesIn x (numbersIn d (at + 8 * r) (n - r))) || someRepeated (numbersIn d (at + 8 * r) (n - r)))
 
--- what stands before the ids: infos, hops, ASes
-unfoldable pub frontBytes : List ℕ → List Edge → List ℕ
-frontBytes b c = (flatMap (infoBytes b) c ++ flatMap (edgeBytes b Hops) c) ++ flatMap (edgeBytes b Ases) c
+-- the edges c are walked: where their hops, ASes and ids end, the least MTU and the soonest expiry; the ASes stand at the front of their buffer
+pub record Drawn (b : List ℕ) (c : List Edge) (a : List ℕ) (ends : Ends) : Type 0 where
+  pub hops-end : ends .hops ≡ pathHeadSize + infoSize * length c + length (flatMap (edgeBytes b Hops) c)
+  pub ases-end : ends .ases ≡ length (flatMap (edgeBytes b Ases) c)
+  pub ids-end : ends .ids ≡ length (flatMap (edgeBytes b Ids) c)
+  pub ases : take (ends .ases) a ≡ flatMap (edgeBytes b Ases) c
+  pub mtu : ends .mtu ≡ least maxMtu (flatMap (mtusOn b) c)
+  pub expiry : ends .expiry ≡ least maxTime (map (expiryOn b) c)
 
--- it stands in d
-pub record Fronted (b : List ℕ) (c : List Edge) (d : List ℕ) (f : Front) : Type 0 where
+-- their hops stand in o, after the room for its infos, and their ids at the front of their buffer
+pub record Placed (b : List ℕ) (c : List Edge) (o i : List ℕ) (ends : Ends) : Type 0 where
   pub before : List ℕ
-  pub bytes : Wrote before pathHeadSize (frontBytes b c) d (f .ids)
-  pub hops : f .hops ≡ pathHeadSize + length (flatMap (infoBytes b) c)
-  pub ases : f .ases ≡ f .hops + length (flatMap (edgeBytes b Hops) c)
-  pub ids : f .ids ≡ f .ases + length (flatMap (edgeBytes b Ases) c)
+  pub hops : Appended before (pathHeadSize + infoSize * length c) (flatMap (edgeBytes b Hops) c) o (ends .hops)
+  pub ids : take (ends .ids) i ≡ flatMap (edgeBytes b Ids) c

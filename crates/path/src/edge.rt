@@ -1,17 +1,20 @@
-// What a path holds of one edge: a walk over its hops in the path's order, for MTUs from the leaf down.
+// What a path holds of one edge: a walk over its hops in the path's order.
 ghost use mathlib.Core.Path.{_≡_};
 ghost use mathlib.Core.List.{[], _∷_, _++_, map};
-ghost use Prim.Native.Nat.{_+_, _*_, _≤_, _<_, min};
+ghost use Prim.Native.Nat.{_+_, _*_, _≤_, _<_};
 ghost use lib.ListN.{length};
 ghost use Rattle.spec.specs.Limits.{maxEntries, infoSize, hopSize};
 ghost use Rattle.spec.specs.Octets.{octets2, octets4};
-ghost use Rattle.spec.specs.Assembly.{least, unitsOf, hopsOn, mtusOn, expiryOn, idBelow, stopAt, segmentOf};
+ghost use Rattle.spec.specs.declared.Verdict.the-variants.{Accepted};
+ghost use Rattle.spec.specs.Book.{verdict};
+ghost use Rattle.spec.specs.Assembly.{least, unitsOf, hopsOn, expiryOn, idBelow, stopAt, segmentOf};
 ghost use Rattle.spec.specs.Records.{bit};
 ghost use Rattle.output.specs.Write.{written};
 ghost use Rattle.path.specs.Usable.{Ready, edgeBy, Usable};
 ghost use Rattle.path.specs.Places.{Wrote};
-ghost use Rattle.path.specs.Parts.{Hops, Ases, Ids, infoBytes, edgeBytes, stopFrom, flagsOf};
+ghost use Rattle.path.specs.Parts.{infoBytes, stopFrom, flagsOf, EdgeWalked};
 use crate::entry;
+use crate::entry::Walk;
 use crate::places;
 use crate::within;
 use spec::SolutionEdge;
@@ -22,138 +25,55 @@ pub const INFO: usize = 8;
 // The last second that a path can say.
 pub const LAST: u32 = 4294967295;
 
-// ---- hops, ASes and ids
+// ---- hops
 
-pub(crate) fn put_hops(
+pub(crate) fn put_edge(
     book: &[u8],
     table: &[u16; places::PLACES],
     e: SolutionEdge,
+    start: Walk,
     out: &mut [u8],
-    at: usize,
-) -> usize
+    ases: &mut [u8],
+    ids: &mut [u8],
+) -> Walk
     requires { ⌜ Ready (now book) (now table) ⌝ }
     requires { ⌜ Usable (now book) (edgeBy e) ⌝ }
-    requires { ⌜ at + hopSize * maxEntries ≤ length (now out) ⌝ }
-    ensures { λ r. ⌜ Wrote (now (out .entry)) at (edgeBytes (now (book .entry)) Hops (edgeBy e)) (now (out .exit)) r × (r ≤ at + hopSize * maxEntries) ⌝ }
+    requires { ⌜ (start .hops + hopSize * maxEntries ≤ length (now out)) × (start .ases + 16 * maxEntries ≤ length (now ases)) × (start .ids + 4 * maxEntries ≤ length (now ids)) ⌝ }
+    ensures { λ r. ⌜ EdgeWalked (now (book .entry)) (edgeBy e) (now (out .entry)) (now (out .exit)) (now (ases .entry)) (now (ases .exit)) (now (ids .entry)) (now (ids .exit)) start r ⌝ }
+    ensures { λ r. ⌜ (r .hops ≤ start .hops + hopSize * maxEntries) × (r .ases ≤ start .ases + 16 * maxEntries) × (r .ids ≤ start .ids + 4 * maxEntries) ⌝ }
 {
     let n = places::entry_count(book, e);
     let hops = n - (e.shortcut as usize);
-    let mut to = at;
+    let mut w = start;
     let mut j: usize = 0;
     while j < hops {
         let m = places::entry_of(e, n, j);
-        to = entry::put_hop(book, e, m, places::offset(book, table, e, m), out, to);
+        w = entry::put_entry(
+            book,
+            e,
+            m,
+            places::offset(book, table, e, m),
+            w,
+            out,
+            ases,
+            ids,
+        );
         j += 1;
     }
-    to
-}
-
-pub(crate) fn put_ases(
-    book: &[u8],
-    table: &[u16; places::PLACES],
-    e: SolutionEdge,
-    out: &mut [u8],
-    at: usize,
-) -> usize
-    requires { ⌜ Ready (now book) (now table) ⌝ }
-    requires { ⌜ Usable (now book) (edgeBy e) ⌝ }
-    requires { ⌜ at + 16 * maxEntries ≤ length (now out) ⌝ }
-    ensures { λ r. ⌜ Wrote (now (out .entry)) at (edgeBytes (now (book .entry)) Ases (edgeBy e)) (now (out .exit)) r × (r ≤ at + 16 * maxEntries) ⌝ }
-{
-    let n = places::entry_count(book, e);
-    let hops = n - (e.shortcut as usize);
-    let mut to = at;
-    let mut j: usize = 0;
-    while j < hops {
-        let m = places::entry_of(e, n, j);
-        to = entry::put_ases(book, e, m, places::offset(book, table, e, m), out, to);
-        j += 1;
-    }
-    to
-}
-
-pub(crate) fn put_ids(
-    book: &[u8],
-    table: &[u16; places::PLACES],
-    e: SolutionEdge,
-    out: &mut [u8],
-    at: usize,
-) -> usize
-    requires { ⌜ Ready (now book) (now table) ⌝ }
-    requires { ⌜ Usable (now book) (edgeBy e) ⌝ }
-    requires { ⌜ at + 4 * maxEntries ≤ length (now out) ⌝ }
-    ensures { λ r. ⌜ Wrote (now (out .entry)) at (edgeBytes (now (book .entry)) Ids (edgeBy e)) (now (out .exit)) r × (r ≤ at + 4 * maxEntries) ⌝ }
-{
-    let n = places::entry_count(book, e);
-    let hops = n - (e.shortcut as usize);
-    let mut to = at;
-    let mut j: usize = 0;
-    while j < hops {
-        let m = places::entry_of(e, n, j);
-        to = entry::put_ids(book, e, m, places::offset(book, table, e, m), out, to);
-        j += 1;
-    }
-    to
-}
-
-// ---- MTU
-
-// The least of x and the edge's MTUs.
-pub(crate) fn mtu(book: &[u8], table: &[u16; places::PLACES], e: SolutionEdge, x: u16) -> u16
-    requires { ⌜ Ready (now book) (now table) ⌝ }
-    requires { ⌜ Usable (now book) (edgeBy e) ⌝ }
-    ensures { λ r. ⌜ r ≡ least x (mtusOn (now (book .entry)) (edgeBy e)) ⌝ }
-{
-    let n = places::entry_count(book, e);
-    let hops = n - (e.shortcut as usize);
-    let mut y = x;
-    let mut j: usize = 0;
-    while j < hops {
-        let m = n - 1 - j;
-        let at = places::offset(book, table, e, m);
-        y = entry::mtu_at(book, e, m, at, y);
-        j += 1;
-    }
-    y
+    w
 }
 
 // ---- expiry
 
-fn less(x: u8, y: u8) -> u8
-    ensures { λ r. ⌜ r ≡ min x y ⌝ }
-{
-    if y < x {
-        return y;
-    }
-    x
-}
-
-// The least units among the hops.
-fn units(book: &[u8], table: &[u16; places::PLACES], e: SolutionEdge) -> u8
-    requires { ⌜ Ready (now book) (now table) ⌝ }
+// The end of an edge whose hops have so many units or more.
+pub(crate) fn expiry(book: &[u8], e: SolutionEdge, units: u8) -> u32
+    requires { ⌜ verdict (now book) ≡ Accepted ⌝ }
     requires { ⌜ Usable (now book) (edgeBy e) ⌝ }
-    ensures { λ r. ⌜ r ≡ least 255 (map unitsOf (hopsOn (now (book .entry)) (edgeBy e))) ⌝ }
-{
-    let n = places::entry_count(book, e);
-    let hops = n - (e.shortcut as usize);
-    let mut x: u8 = 255;
-    let mut j: usize = 0;
-    while j < hops {
-        let m = places::entry_of(e, n, j);
-        let at = places::offset(book, table, e, m);
-        x = less(x, entry::units_at(book, e, m, at));
-        j += 1;
-    }
-    x
-}
-
-pub(crate) fn expiry(book: &[u8], table: &[u16; places::PLACES], e: SolutionEdge) -> u32
-    requires { ⌜ Ready (now book) (now table) ⌝ }
-    requires { ⌜ Usable (now book) (edgeBy e) ⌝ }
+    requires { ⌜ units ≡ least 255 (map unitsOf (hopsOn (now book) (edgeBy e))) ⌝ }
     ensures { λ r. ⌜ r ≡ expiryOn (now (book .entry)) (edgeBy e) ⌝ }
 {
     let start = places::timestamp(book, e);
-    let life = standard::types::exp_time_to_duration(units(book, table, e));
+    let life = standard::types::exp_time_to_duration(units);
     if LAST - start < life {
         return LAST;
     }

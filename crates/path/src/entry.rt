@@ -3,7 +3,7 @@ ghost use mathlib.Core.Path.{_≡_};
 ghost use mathlib.Core.List.{_++_};
 ghost use Prim.Native.Nat.{_+_, _^_, _≤_, _<_, min};
 ghost use lib.ListN.{length, take, drop};
-ghost use Rattle.spec.specs.Limits.{entrySize, hopSize};
+ghost use Rattle.spec.specs.Limits.{entrySize, hopSize, maxMtu};
 ghost use Rattle.spec.specs.Octets.{be16};
 ghost use Rattle.spec.specs.Book.{isdAsnAt, asEntryAt};
 ghost use Rattle.spec.specs.Edges.{asOf};
@@ -11,8 +11,8 @@ ghost use Rattle.output.specs.Write.{written};
 ghost use Rattle.spec.specs.Assembly.{least, mtusAt, hopOf, segmentOf};
 ghost use Rattle.spec.specs.Records.{hopOctets};
 ghost use Rattle.path.specs.Usable.{edgeBy};
-ghost use Rattle.path.specs.Places.{Here, Wrote};
-ghost use Rattle.path.specs.Parts.{Hops, Ases, Ids, linkMtus, ingressShown, shownAs, asIf, idIf, interfacesHere, entryBytes};
+ghost use Rattle.path.specs.Places.{Here, Wrote, Appended};
+ghost use Rattle.path.specs.Parts.{Hops, linkMtus, ingressShown, shownAs, asIf, idIf, interfacesHere, entryBytes, EntryWalked};
 use crate::places;
 use crate::within;
 use spec::SolutionEdge;
@@ -28,7 +28,7 @@ pub(crate) struct ShownIds {
 
 // ---- hops
 
-pub(crate) fn units_at(book: &[u8], e: SolutionEdge, m: usize, at: usize) -> u8
+fn units_at(book: &[u8], e: SolutionEdge, m: usize, at: usize) -> u8
     requires { ⌜ Here (now book) (edgeBy e) m at ⌝ }
     requires { ⌜ at < 2 ^ 16 ⌝ }
     ensures { λ r. ⌜ r ≡ hopOf (segmentOf (now (book .entry)) (edgeBy e)) (edgeBy e) m .units ⌝ }
@@ -76,14 +76,7 @@ fn put_peer_hop(book: &[u8], from: usize, out: &mut [u8], to: usize)
     within::copy(&r, 0, out, to, HOP);
 }
 
-pub(crate) fn put_hop(
-    book: &[u8],
-    e: SolutionEdge,
-    m: usize,
-    at: usize,
-    out: &mut [u8],
-    to: usize,
-) -> usize
+fn put_hop(book: &[u8], e: SolutionEdge, m: usize, at: usize, out: &mut [u8], to: usize) -> usize
     requires { ⌜ Here (now book) (edgeBy e) m at ⌝ }
     requires { ⌜ at < 2 ^ 16 ⌝ }
     requires { ⌜ to + hopSize ≤ length (now out) ⌝ }
@@ -132,68 +125,35 @@ fn shown(book: &[u8], e: SolutionEdge, m: usize, at: usize) -> ShownIds
     }
 }
 
-// The AS at an offset of the book, if the id is shown. It stands there as in a path, and goes by way of a local one.
-fn put_as(book: &[u8], at: usize, out: &mut [u8], to: usize, id: u16) -> usize
-    requires { ⌜ (at + 8 ≤ length (now book)) × (to + 8 ≤ length (now out)) ⌝ }
-    ensures { λ r. ⌜ Wrote (now (out .entry)) to (asIf (isdAsnAt (now (book .entry)) at) id) (now (out .exit)) r × (r ≤ to + 8) ⌝ }
+// The AS at an offset of the book. It is written also where no id is shown, and what comes next then goes over it: no branch
+// is to be foretold.
+fn put_as(book: &[u8], at: usize, ases: &mut [u8], to: usize, id: u16) -> usize
+    requires { ⌜ (at + 8 ≤ length (now book)) × (to + 8 ≤ length (now ases)) ⌝ }
+    ensures { λ r. ⌜ Appended (now (ases .entry)) to (asIf (isdAsnAt (now (book .entry)) at) id) (now (ases .exit)) r × (r ≤ to + 8) ⌝ }
 {
+    let mut r = [0u8; 8];
+    within::copy(book, at, &mut r, 0, 8);
+    within::copy(&r, 0, ases, to, 8);
     if id == 0 {
         return to;
     }
-    let mut r = [0u8; 8];
-    within::copy(book, at, &mut r, 0, 8);
-    within::copy(&r, 0, out, to, 8);
     to + 8
 }
 
-fn put_id(out: &mut [u8], to: usize, id: u16) -> usize
-    requires { ⌜ to + 2 ≤ length (now out) ⌝ }
-    ensures { λ r. ⌜ Wrote (now (out .entry)) to (idIf id) (now (out .exit)) r × (r ≤ to + 2) ⌝ }
+fn put_id(ids: &mut [u8], to: usize, id: u16) -> usize
+    requires { ⌜ to + 2 ≤ length (now ids) ⌝ }
+    ensures { λ r. ⌜ Appended (now (ids .entry)) to (idIf id) (now (ids .exit)) r × (r ≤ to + 2) ⌝ }
 {
+    within::put16(ids, to, id);
     if id == 0 {
         return to;
     }
-    within::put16(out, to, id);
     to + 2
 }
 
-pub(crate) fn put_ases(
-    book: &[u8],
-    e: SolutionEdge,
-    m: usize,
-    at: usize,
-    out: &mut [u8],
-    to: usize,
-) -> usize
-    requires { ⌜ Here (now book) (edgeBy e) m at ⌝ }
-    requires { ⌜ at < 2 ^ 16 ⌝ }
-    requires { ⌜ to + 16 ≤ length (now out) ⌝ }
-    ensures { λ r. ⌜ Wrote (now (out .entry)) to (entryBytes (now (book .entry)) (edgeBy e) Ases m) (now (out .exit)) r × (r ≤ to + 16) ⌝ }
-{
-    let shown = shown(book, e, m, at);
-    let next = put_as(book, at, out, to, shown.first);
-    put_as(book, at, out, next, shown.second)
-}
-
-pub(crate) fn put_ids(
-    book: &[u8],
-    e: SolutionEdge,
-    m: usize,
-    at: usize,
-    out: &mut [u8],
-    to: usize,
-) -> usize
-    requires { ⌜ Here (now book) (edgeBy e) m at ⌝ }
-    requires { ⌜ at < 2 ^ 16 ⌝ }
-    requires { ⌜ to + 4 ≤ length (now out) ⌝ }
-    ensures { λ r. ⌜ Wrote (now (out .entry)) to (entryBytes (now (book .entry)) (edgeBy e) Ids m) (now (out .exit)) r × (r ≤ to + 4) ⌝ }
-{
-    let shown = shown(book, e, m, at);
-    let next = put_id(out, to, shown.first);
-    put_id(out, next, shown.second)
-}
-
 // ---- MTUs
+
+pub const MOST: u16 = 65535;
 
 fn less(x: u16, y: u16) -> u16
     ensures { λ r. ⌜ r ≡ min x y ⌝ }
@@ -204,31 +164,91 @@ fn less(x: u16, y: u16) -> u16
     x
 }
 
-// The least of x and the MTU of the link over which the entry is entered.
-fn link_mtu(book: &[u8], e: SolutionEdge, m: usize, at: usize, x: u16) -> u16
+// The most that an MTU can be, where none is said.
+fn or_most(x: u16) -> u16
+    ensures { λ r. ⌜ (x ≡ 0 → r ≡ maxMtu) × ((x ≡ 0 → ⊥) → r ≡ x) ⌝ }
+{
+    if x == 0 {
+        return MOST;
+    }
+    x
+}
+
+// The MTU of the link over which the entry is entered, if it counts, else the most.
+fn link_mtu(book: &[u8], e: SolutionEdge, m: usize, at: usize) -> u16
     requires { ⌜ Here (now book) (edgeBy e) m at ⌝ }
     requires { ⌜ at < 2 ^ 16 ⌝ }
-    ensures { λ r. ⌜ r ≡ least x (linkMtus (segmentOf (now (book .entry)) (edgeBy e)) (edgeBy e) m) ⌝ }
+    ensures { λ r. ⌜ r ≡ least maxMtu (linkMtus (segmentOf (now (book .entry)) (edgeBy e)) (edgeBy e) m) ⌝ }
 {
     if places::is_peer_hop(e, m) {
-        return less(x, within::read16(book, places::link_offset(e, at) + 10));
+        return within::read16(book, places::link_offset(e, at) + 10);
     }
     if places::is_left(e, m) {
-        return x;
+        return MOST;
     }
-    let ingress = within::read16(book, at + 12);
-    if ingress == 0 {
-        return x;
-    }
-    less(x, ingress)
+    or_most(within::read16(book, at + 12))
 }
 
 // The least of x and the entry's MTUs.
-pub(crate) fn mtu_at(book: &[u8], e: SolutionEdge, m: usize, at: usize, x: u16) -> u16
+fn mtu_at(book: &[u8], e: SolutionEdge, m: usize, at: usize, x: u16) -> u16
     requires { ⌜ Here (now book) (edgeBy e) m at ⌝ }
     requires { ⌜ at < 2 ^ 16 ⌝ }
     ensures { λ r. ⌜ r ≡ least x (mtusAt (segmentOf (now (book .entry)) (edgeBy e)) (edgeBy e) m) ⌝ }
 {
-    let y = link_mtu(book, e, m, at, x);
+    let y = less(x, link_mtu(book, e, m, at));
     less(y, (within::read32(book, at + 8) % 65536) as u16)
+}
+
+// ---- one hop
+
+// Where the next hop, AS and id go, each in its buffer, and the least MTU and units so far.
+pub(crate) struct Walk {
+    pub hops: usize,
+    pub ases: usize,
+    pub ids: usize,
+    pub mtu: u16,
+    pub units: u8,
+}
+
+fn fewer(x: u8, y: u8) -> u8
+    ensures { λ r. ⌜ r ≡ min x y ⌝ }
+{
+    if y < x {
+        return y;
+    }
+    x
+}
+
+// All that a path holds of an entry, at once: entries are gone over once.
+pub(crate) fn put_entry(
+    book: &[u8],
+    e: SolutionEdge,
+    m: usize,
+    at: usize,
+    w: Walk,
+    out: &mut [u8],
+    ases: &mut [u8],
+    ids: &mut [u8],
+) -> Walk
+    requires { ⌜ Here (now book) (edgeBy e) m at ⌝ }
+    requires { ⌜ at < 2 ^ 16 ⌝ }
+    requires { ⌜ (w .hops + hopSize ≤ length (now out)) × (w .ases + 16 ≤ length (now ases)) × (w .ids + 4 ≤ length (now ids)) ⌝ }
+    ensures { λ r. ⌜ EntryWalked (now (book .entry)) (edgeBy e) m (now (out .entry)) (now (out .exit)) (now (ases .entry)) (now (ases .exit)) (now (ids .entry)) (now (ids .exit)) w r ⌝ }
+    ensures { λ r. ⌜ (r .hops ≤ w .hops + hopSize) × (r .ases ≤ w .ases + 16) × (r .ids ≤ w .ids + 4) ⌝ }
+{
+    let shown = shown(book, e, m, at);
+    let hops = put_hop(book, e, m, at, out, w.hops);
+    let next_as = put_as(book, at, ases, w.ases, shown.first);
+    let end_as = put_as(book, at, ases, next_as, shown.second);
+    let next_id = put_id(ids, w.ids, shown.first);
+    let end_id = put_id(ids, next_id, shown.second);
+    let mtu = mtu_at(book, e, m, at, w.mtu);
+    let units = fewer(w.units, units_at(book, e, m, at));
+    Walk {
+        hops: hops,
+        ases: end_as,
+        ids: end_id,
+        mtu: mtu,
+        units: units,
+    }
 }

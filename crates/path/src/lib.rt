@@ -16,9 +16,15 @@ ghost use Rattle.graph.specs.Recorded.{chainEdges};
 ghost use Rattle.path.specs.Whole.{edgesIn, UsableRecord};
 use graph::Chain;
 use spec::IsdAsn;
+use spec::Limits;
 use spec::Path;
 use spec::PathAnswer;
 use spec::Refusal;
+
+// The bytes of the ASes and of the ids of a path with the most interfaces: two for each hop.
+const ASES: usize = 16 * 3 * Limits::ENTRIES;
+
+const IDS: usize = 4 * 3 * Limits::ENTRIES;
 
 // How many edges a chain has.
 fn edge_count(chain: Chain) -> usize
@@ -45,10 +51,11 @@ pub(crate) fn build(
     requires { ⌜ pathSize ≤ length (now out) ⌝ }
     ensures { λ r. ⌜ (r ≡ pathAnswer (now (book .entry)) (length (now (out .entry))) (edgesIn (now (given .entry)) count) .0) × (now (out .exit) ≡ pathAnswer (now (book .entry)) (length (now (out .entry))) (edgesIn (now (given .entry)) count) .1) ⌝ }
 {
-    let front = record::put_front(book, table, given, count, out);
-    let ases = front.ases;
-    let shown = (front.ids - ases) / 8;
-    if frequent::is_frequent(out, ases, shown) {
+    let mut ases = [0u8; ASES];
+    let mut ids = [0u8; IDS];
+    let ends = record::put_edges(book, table, given, count, out, &mut ases, &mut ids);
+    let shown = ends.ases / 8;
+    if frequent::is_frequent(&ases, 0, shown) {
         output::zero(out, 0);
         return PathAnswer::Loop;
     }
@@ -56,7 +63,7 @@ pub(crate) fn build(
         output::zero(out, 0);
         return PathAnswer::Bare;
     }
-    record::put_path(book, table, given, count, out, front);
+    record::put_path(book, table, given, count, out, &ases, &ids, ends);
     PathAnswer::Path
 }
 

@@ -1,21 +1,25 @@
 // The record of a whole path: the edges of a solution's record one after the other.
 ghost use mathlib.Core.Path.{_≡_};
-ghost use mathlib.Core.List.{[], _∷_, _++_, map, flatMap};
+ghost use mathlib.Core.List.{[], _∷_, _++_, flatMap};
 ghost use Prim.Native.Nat.{_+_, _*_, _≤_, _<_, min};
 ghost use lib.ListN.{length};
-ghost use Rattle.spec.specs.Limits.{maxEdges, maxEntries, maxMtu, maxTime, infoSize, hopSize, pathSize};
+ghost use Rattle.spec.specs.declared.Verdict.the-variants.{Accepted};
+ghost use Rattle.spec.specs.Limits.{maxEdges, maxEntries, infoSize, pathSize};
 ghost use Rattle.spec.specs.Basics.{padded};
 ghost use Rattle.spec.specs.Octets.{octets2, octets4, octets8};
-ghost use Rattle.spec.specs.Assembly.{least, mtusOn, expiryOn, combinedPath};
+ghost use Rattle.spec.specs.Book.{verdict};
+ghost use Rattle.spec.specs.Assembly.{combinedPath};
 ghost use Rattle.spec.specs.Records.{recordEdge, pathHead, pathHeadOctets, pathOctets};
 ghost use Rattle.output.specs.Write.{written};
-ghost use Rattle.path.specs.Usable.{Ready, edgeBy, Usable};
+ghost use Rattle.path.specs.Usable.{Ready};
 ghost use Rattle.path.specs.Places.{Wrote};
-ghost use Rattle.path.specs.Parts.{Hops, Ases, Ids, infoBytes, edgeBytes};
-ghost use Rattle.path.specs.Whole.{edgesIn, UsableRecord, Fronted};
+ghost use Rattle.path.specs.Parts.{infoBytes};
+ghost use Rattle.path.specs.Whole.{edgesIn, UsableRecord, Drawn, Placed};
 use crate::edge;
 use crate::entry;
+use crate::entry::Walk;
 use crate::places;
+use crate::within;
 use spec::Path;
 use spec::SolutionEdge;
 
@@ -58,174 +62,91 @@ pub(crate) fn put_infos(
     to
 }
 
-pub(crate) fn put_hops(
-    book: &[u8],
-    table: &[u16; places::PLACES],
-    given: &[u8],
-    count: usize,
-    out: &mut [u8],
-    at: usize,
-) -> usize
-    requires { ⌜ Ready (now book) (now table) ⌝ }
-    requires { ⌜ UsableRecord (now book) (now given) count ⌝ }
-    requires { ⌜ at + maxEdges * maxEntries * hopSize ≤ length (now out) ⌝ }
-    ensures { λ r. ⌜ Wrote (now (out .entry)) at (flatMap (edgeBytes (now (book .entry)) Hops) (edgesIn (now (given .entry)) count)) (now (out .exit)) r × (r ≤ at + maxEdges * maxEntries * hopSize) ⌝ }
-{
-    let mut to = at;
-    let mut x: usize = 0;
-    while x < count {
-        to = edge::put_hops(book, table, edge_in(given, x), out, to);
-        x += 1;
-    }
-    to
-}
+// ---- hops, ASes and ids
 
-pub(crate) fn put_ases(
-    book: &[u8],
-    table: &[u16; places::PLACES],
-    given: &[u8],
-    count: usize,
-    out: &mut [u8],
-    at: usize,
-) -> usize
-    requires { ⌜ Ready (now book) (now table) ⌝ }
-    requires { ⌜ UsableRecord (now book) (now given) count ⌝ }
-    requires { ⌜ at + maxEdges * maxEntries * 16 ≤ length (now out) ⌝ }
-    ensures { λ r. ⌜ Wrote (now (out .entry)) at (flatMap (edgeBytes (now (book .entry)) Ases) (edgesIn (now (given .entry)) count)) (now (out .exit)) r × (r ≤ at + maxEdges * maxEntries * 16) ⌝ }
+fn sooner(x: u32, y: u32) -> u32
+    ensures { λ r. ⌜ r ≡ min x y ⌝ }
 {
-    let mut to = at;
-    let mut x: usize = 0;
-    while x < count {
-        to = edge::put_ases(book, table, edge_in(given, x), out, to);
-        x += 1;
-    }
-    to
-}
-
-pub(crate) fn put_ids(
-    book: &[u8],
-    table: &[u16; places::PLACES],
-    given: &[u8],
-    count: usize,
-    out: &mut [u8],
-    at: usize,
-) -> usize
-    requires { ⌜ Ready (now book) (now table) ⌝ }
-    requires { ⌜ UsableRecord (now book) (now given) count ⌝ }
-    requires { ⌜ at + maxEdges * maxEntries * 4 ≤ length (now out) ⌝ }
-    ensures { λ r. ⌜ Wrote (now (out .entry)) at (flatMap (edgeBytes (now (book .entry)) Ids) (edgesIn (now (given .entry)) count)) (now (out .exit)) r × (r ≤ at + maxEdges * maxEntries * 4) ⌝ }
-{
-    let mut to = at;
-    let mut x: usize = 0;
-    while x < count {
-        to = edge::put_ids(book, table, edge_in(given, x), out, to);
-        x += 1;
-    }
-    to
-}
-
-// The least MTU.
-pub(crate) fn mtu(book: &[u8], table: &[u16; places::PLACES], given: &[u8], count: usize) -> u16
-    requires { ⌜ Ready (now book) (now table) ⌝ }
-    requires { ⌜ UsableRecord (now book) (now given) count ⌝ }
-    ensures { λ r. ⌜ r ≡ least maxMtu (flatMap (mtusOn (now (book .entry))) (edgesIn (now (given .entry)) count)) ⌝ }
-{
-    let mut y: u16 = 65535;
-    let mut x: usize = 0;
-    while x < count {
-        y = edge::mtu(book, table, edge_in(given, x), y);
-        x += 1;
-    }
-    y
-}
-
-// The sooner of a time and an edge's expiry.
-fn sooner(book: &[u8], table: &[u16; places::PLACES], e: SolutionEdge, x: u32) -> u32
-    requires { ⌜ Ready (now book) (now table) ⌝ }
-    requires { ⌜ Usable (now book) (edgeBy e) ⌝ }
-    ensures { λ r. ⌜ r ≡ min x (expiryOn (now (book .entry)) (edgeBy e)) ⌝ }
-{
-    let y = edge::expiry(book, table, e);
     if y < x {
         return y;
     }
     x
 }
 
-// The soonest expiry.
-pub(crate) fn expiry(book: &[u8], table: &[u16; places::PLACES], given: &[u8], count: usize) -> u32
-    requires { ⌜ Ready (now book) (now table) ⌝ }
-    requires { ⌜ UsableRecord (now book) (now given) count ⌝ }
-    ensures { λ r. ⌜ r ≡ least maxTime (map (expiryOn (now (book .entry))) (edgesIn (now (given .entry)) count)) ⌝ }
-{
-    let mut y: u32 = edge::LAST;
-    let mut x: usize = 0;
-    while x < count {
-        y = sooner(book, table, edge_in(given, x), y);
-        x += 1;
-    }
-    y
-}
-
-// ---- infos, hops and ASes
-
-// Where the hops, the ASes and the ids of a path start in its record.
-pub(crate) struct Front {
+// Where hops, ASes and ids end, each in its buffer, the path's MTU and its expiry.
+pub(crate) struct Ends {
     pub hops: usize,
     pub ases: usize,
     pub ids: usize,
+    pub mtu: u16,
+    pub expiry: u32,
 }
 
-pub(crate) fn put_front(
+// The hops go where they stand in the path's record; where ASes and ids stand is known when all are.
+pub(crate) fn put_edges(
     book: &[u8],
     table: &[u16; places::PLACES],
     given: &[u8],
     count: usize,
     out: &mut [u8],
-) -> Front
+    ases: &mut [u8],
+    ids: &mut [u8],
+) -> Ends
     requires { ⌜ Ready (now book) (now table) ⌝ }
     requires { ⌜ UsableRecord (now book) (now given) count ⌝ }
-    requires { ⌜ pathSize ≤ length (now out) ⌝ }
-    ensures { λ r. ⌜ Fronted (now (book .entry)) (edgesIn (now (given .entry)) count) (now (out .exit)) r × (r .ids + maxEdges * maxEntries * 4 ≤ pathSize) ⌝ }
+    requires { ⌜ (pathSize ≤ length (now out)) × (16 * maxEntries * maxEdges ≤ length (now ases)) × (4 * maxEntries * maxEdges ≤ length (now ids)) ⌝ }
+    ensures { λ r. ⌜ Drawn (now (book .entry)) (edgesIn (now (given .entry)) count) (now (ases .exit)) r ⌝ }
+    ensures { λ r. ⌜ Placed (now (book .entry)) (edgesIn (now (given .entry)) count) (now (out .exit)) (now (ids .exit)) r ⌝ }
 {
-    let hops = put_infos(book, table, given, count, out, HEAD);
-    let ases = put_hops(book, table, given, count, out, hops);
-    let ids = put_ases(book, table, given, count, out, ases);
-    Front {
-        hops: hops,
-        ases: ases,
-        ids: ids,
+    let mut ends = Ends {
+        hops: HEAD + edge::INFO * count,
+        ases: 0,
+        ids: 0,
+        mtu: entry::MOST,
+        expiry: edge::LAST,
+    };
+    let mut x: usize = 0;
+    while x < count {
+        let e = edge_in(given, x);
+        let start = Walk {
+            hops: ends.hops,
+            ases: ends.ases,
+            ids: ends.ids,
+            mtu: ends.mtu,
+            units: 255,
+        };
+        let w = edge::put_edge(book, table, e, start, out, ases, ids);
+        let end = edge::expiry(book, e, w.units);
+        ends = Ends {
+            hops: w.hops,
+            ases: w.ases,
+            ids: w.ids,
+            mtu: w.mtu,
+            expiry: sooner(ends.expiry, end),
+        };
+        x += 1;
     }
+    ends
 }
 
 // ---- what stands before the infos
 
-// Counts, MTU, expiry, and the first and last interface's AS, which stand in the record already.
-fn path_head(
-    book: &[u8],
-    table: &[u16; places::PLACES],
-    given: &[u8],
-    count: usize,
-    out: &[u8],
-    front: Front,
-) -> Path
-    requires { ⌜ Ready (now book) (now table) ⌝ }
+// Counts, MTU, expiry, and the first and last interface's AS.
+fn path_head(book: &[u8], given: &[u8], count: usize, ases: &[u8], ends: Ends) -> Path
+    requires { ⌜ verdict (now book) ≡ Accepted ⌝ }
     requires { ⌜ UsableRecord (now book) (now given) count ⌝ }
-    requires { ⌜ Fronted (now book) (edgesIn (now given) count) (now out) front ⌝ }
-    requires { ⌜ pathSize ≤ length (now out) ⌝ }
-    requires { ⌜ front .ases < front .ids ⌝ }
+    requires { ⌜ Drawn (now book) (edgesIn (now given) count) (now ases) ends ⌝ }
+    requires { ⌜ 0 < ends .ases ⌝ }
     ensures { λ r. ⌜ r ≡ pathHead (combinedPath (now (book .entry)) (edgesIn (now (given .entry)) count)) ⌝ }
 {
-    let mtu = mtu(book, table, given, count);
-    let expiry = expiry(book, table, given, count);
-    let first = segment::isd_asn(out, front.ases);
-    let last = segment::isd_asn(out, front.ids - 8);
+    let first = segment::isd_asn(ases, 0);
+    let last = segment::isd_asn(ases, ends.ases - 8);
     Path {
-        infos: ((front.hops - HEAD) / edge::INFO) as u8,
-        hops: ((front.ases - front.hops) / entry::HOP) as u8,
-        interfaces: ((front.ids - front.ases) / 8) as u8,
-        mtu: mtu,
-        expiry: expiry,
+        infos: count as u8,
+        hops: ((ends.hops - HEAD - edge::INFO * count) / entry::HOP) as u8,
+        interfaces: (ends.ases / 8) as u8,
+        mtu: ends.mtu,
+        expiry: ends.expiry,
         first: first,
         last: last,
     }
@@ -258,24 +179,29 @@ fn put_head(out: &mut [u8], head: Path)
     put_ends(out, head.mtu, head.expiry, first.0, last.0);
 }
 
-// The record of a path with interfaces, whose infos, hops and ASes stand.
+// The record of a path with interfaces, whose hops stand.
 pub(crate) fn put_path(
     book: &[u8],
     table: &[u16; places::PLACES],
     given: &[u8],
     count: usize,
     out: &mut [u8],
-    front: Front,
+    ases: &[u8],
+    ids: &[u8],
+    ends: Ends,
 )
     requires { ⌜ Ready (now book) (now table) ⌝ }
     requires { ⌜ UsableRecord (now book) (now given) count ⌝ }
-    requires { ⌜ Fronted (now book) (edgesIn (now given) count) (now out) front ⌝ }
-    requires { ⌜ pathSize ≤ length (now out) ⌝ }
-    requires { ⌜ (front .ases < front .ids) × (front .ids + maxEdges * maxEntries * 4 ≤ pathSize) ⌝ }
+    requires { ⌜ Drawn (now book) (edgesIn (now given) count) (now ases) ends ⌝ }
+    requires { ⌜ Placed (now book) (edgesIn (now given) count) (now out) (now ids) ends ⌝ }
+    requires { ⌜ (pathSize ≤ length (now out)) × (0 < ends .ases) ⌝ }
     ensures { λ _. ⌜ now (out .exit) ≡ padded (length (now (out .entry))) (pathOctets (combinedPath (now (book .entry)) (edgesIn (now (given .entry)) count))) ⌝ }
 {
-    let head = path_head(book, table, given, count, out, front);
-    let end = put_ids(book, table, given, count, out, front.ids);
+    let head = path_head(book, given, count, ases, ends);
+    put_infos(book, table, given, count, out, HEAD);
+    let next = ends.hops + ends.ases;
+    within::copy(ases, 0, out, ends.hops, ends.ases);
+    within::copy(ids, 0, out, next, ends.ids);
     put_head(out, head);
-    output::zero(out, end);
+    output::zero(out, next + ends.ids);
 }

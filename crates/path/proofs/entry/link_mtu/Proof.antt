@@ -3,7 +3,7 @@
 use native.Mathlib.Omega.{arith}
 use mathlib.Core.Path.{sym, _∙_}
 use Rattle.path.proofs.Standing.{link-mtu-read, ingress-mtu-read}
-use Rattle.path.proofs.Showing.{link-peer, link-left, link-unknown, link-known}
+use Rattle.path.proofs.Showing.{link-peer, link-left, link-inner}
 use borrow.Author.Needs.{needs}
 use Rattle.path.proofs.entry.link_mtu.Statement.{statement}
 use Rattle.path.proofs.entry.link_mtu.Tie as tie
@@ -16,23 +16,16 @@ read16-requires c κs = omega (arith, c .before .before .before .before .pre .0 
 
 returns : tie.Need-returns
 returns c =
-    let q = sym (c .before .before .before .before .is-peer-hop .ensures) ∙ c .before .before .before .if1 .taken in
-    rw (c .less .ensures, c .before .read16 .ensures, c .before .before .link-offset .ensures .0, link-mtu-read _ _ _ _ (c .before .before .before .before .before .before .pre .0) q)
-    (link-peer _ _ _ _ q)
+    let q = sym (c .before .before .before .is-peer-hop .ensures) ∙ c .before .before .if1 .taken in
+    link-peer _ _ _ q _ (c .read16 .ensures ∙ (rw (c .before .link-offset .ensures .0) (link-mtu-read _ _ _ _ (c .before .before .before .before .before .pre .0) q))) (omega arith)
 
 returns-2 : tie.Need-returns-2
-returns-2 c = link-left _ _ _ _ (sym (c .before .before .before .is-peer-hop .ensures) ∙ c .before .before .if1 .left) (sym (c .before .is-left .ensures) ∙ c .if2 .taken)
+returns-2 c = link-left _ _ _ (sym (c .before .before .before .is-peer-hop .ensures) ∙ c .before .before .if1 .left) (sym (c .before .is-left .ensures) ∙ c .if2 .taken)
 
 returns-3 : tie.Need-returns-3
 returns-3 c =
-    link-unknown _ _ _ _ (sym (c .before .before .before .before .before .is-peer-hop .ensures) ∙ c .before .before .before .before .if1 .left)
-    (sym (ingress-mtu-read _ _ _ _ (c .before .before .before .before .before .before .before .pre .0)) ∙ sym (c .before .read162 .ensures) ∙ c .if3 .taken)
-
-returns-4 : tie.Need-returns-4
-returns-4 c =
-    let e = c .before .before .read162 .ensures ∙ ingress-mtu-read _ _ _ _ (c .before .before .before .before .before .before .before .before .pre .0) in
-    rw (c .less2 .ensures, e)
-    (link-known _ _ _ _ (sym (c .before .before .before .before .before .before .is-peer-hop .ensures) ∙ c .before .before .before .before .before .if1 .left) (sym (c .before .before .before .before .is-left .ensures) ∙ c .before .before .before .if2 .left) (λ z. c .before .if3 .left (e ∙ z)))
+    link-inner _ _ _ (sym (c .before .before .before .before .before .is-peer-hop .ensures) ∙ c .before .before .before .before .if1 .left) (sym (c .before .before .before .is-left .ensures) ∙ c .before .before .if2 .left) _ _
+    (c .before .read162 .ensures ∙ ingress-mtu-read _ _ _ _ (c .before .before .before .before .before .before .before .pre .0)) (omega arith) (c .or-most .ensures)
 
 pub link-mtu-spec : {M : Type 1} → statement M
 link-mtu-spec =
@@ -42,12 +35,10 @@ link-mtu-spec =
     link-offset-requires
     (λ c. search needs)
     read16-requires
-    (λ c κs. search needs)
     returns
     (λ c κs. search needs)
     returns-2
     (λ c. search needs)
     (λ c κs. search needs)
-    returns-3
     (λ c κs. search needs)
-    returns-4)
+    returns-3)
