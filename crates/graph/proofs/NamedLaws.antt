@@ -5,7 +5,7 @@ use native.Mathlib.Omega.{arith}
 use mathlib.Core.Path.{_≡_, refl, sym, ap, ap₂, _∙_, subst}
 use mathlib.Core.Logic.{⊎-elim}
 use mathlib.Core.Bool.{Bool, true, false, _&&_, _||_, not, false≢true}
-use mathlib.Core.List.{List, [], _∷_, _++_, map, flatMap, List·Memᴰ as Mem, List·Memᴰ·head as head, List·Memᴰ·tail as tail, List·Memᴰ·not-nil as not-nil, List·Memᴰ·cases-cons as cases-cons, Memᴰ·cast}
+use mathlib.Core.List.{List, [], _∷_, _++_, map, List·Memᴰ as Mem, List·Memᴰ·head as head, List·Memᴰ·tail as tail, List·Memᴰ·not-nil as not-nil, List·Memᴰ·cases-cons as cases-cons, Memᴰ·cast}
 use lib.ListN.{length, getD, replicate, length-map}
 use borrow.Author.Tests.{not-true}
 use Rattle.spec.specs.declared.IsdAsn.{IsdAsn}
@@ -14,7 +14,7 @@ use Rattle.spec.specs.declared.Vertex.the-variants.{AS}
 use Rattle.spec.specs.declared.Edge.{Edge}
 use Rattle.spec.specs.declared.SolutionEdge.{SolutionEdge}
 use Rattle.spec.specs.Limits.{maxEdges}
-use Rattle.spec.specs.Basics.{if_then_else_, any, filter, range, sum, sameList}
+use Rattle.spec.specs.Basics.{if_then_else_, any, range, sum, sameList}
 use Rattle.spec.specs.Edges.{sameVertex, storedEdges}
 use Rattle.spec.specs.Chains.{allowedKinds, Leads, IsChain, chains}
 use Rattle.spec.specs.Order.{cost, weightOf, solutionEdge}
@@ -28,7 +28,6 @@ use Rattle.spec.proofs.ChainLaws.{Among, allowed-length, chains-sound, chains-c
 use Rattle.spec.proofs.OnceLaws.{any-mem}
 use Rattle.spec.proofs.AnswerLaws.{sameList-eq, sameList-refl, record-chain}
 use Rattle.graph.specs.declared.chains.Way.{Way}
-use Rattle.graph.specs.declared.Chain.{Chain}
 use Rattle.graph.specs.declared.Chain.the-variants.{Stranger, Edges}
 use Rattle.graph.specs.Identity.{hasIdentity, identifiedIn}
 use Rattle.graph.specs.Pushed.{recordOctets}

@@ -5,8 +5,8 @@ use native.Mathlib.Omega.{arith}
 use mathlib.Core.Path.{_≡_, refl, sym, ap, _∙_}
 use mathlib.Core.Bool.{Bool, true, false, _&&_, _||_, not}
 use mathlib.Core.List.{List, [], _∷_, _++_, map, flatMap, append-nil}
-use lib.ListN.{length, getD, replicate}
-use lib.Dec.{ltb, eqb}
+use lib.ListN.{length, replicate}
+use lib.Dec.{eqb}
 use borrow.Author.Tests.{eq-eqb, ne-eqb, lt-ltb, le-ltb}
 use Rattle.spec.specs.declared.IsdAsn.{IsdAsn}
 use Rattle.spec.specs.declared.Edge.{Edge}
@@ -21,7 +21,7 @@ use Rattle.spec.specs.Book.{verdict}
 use Rattle.spec.specs.Records.{bit, noEdge, recordEdge}
 use Rattle.graph.specs.declared.chains.Way.{Way}
 use Rattle.graph.specs.declared.Chain.{Chain}
-use Rattle.graph.specs.declared.Chain.the-variants.{Refused, Stranger, Edges}
+use Rattle.graph.specs.declared.Chain.the-variants.{Refused}
 use Rattle.graph.specs.declared.Found.{Found}
 use Rattle.graph.specs.declared.Found.the-variants.{Edge as FoundEdge, Nothing}
 use Rattle.graph.specs.Lookup.{foundEdges}

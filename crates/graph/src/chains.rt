@@ -4,7 +4,6 @@ ghost use Prim.Native.Nat.{_+_, _≤_};
 ghost use lib.ListN.{length};
 ghost use Rattle.spec.specs.Limits.{maxEdges, solutionSize};
 ghost use Rattle.spec.specs.Basics.{sameList};
-ghost use Rattle.spec.specs.Octets.{be64};
 ghost use Rattle.spec.specs.Records.{recordEdge};
 ghost use Rattle.book.specs.Offsets.{openTable};
 ghost use Rattle.graph.specs.Lookup.{foundEdges};
@@ -48,26 +47,16 @@ fn named_edge(given: &[u8], k: u8) -> SolutionEdge
     }
 }
 
-// Eight bytes as a number.
-fn word(s: &[u8], at: usize) -> u64
-    requires { ⌜ at + 8 ≤ length (now s) ⌝ }
-    ensures { λ r. ⌜ r ≡ be64 (now (s .entry)) at ⌝ }
-{
-    let high = edges::half_within(s, at);
-    let low = edges::half_within(s, at + 4);
-    edges::wide64(high) * 4294967296 + edges::wide64(low)
-}
-
 // Two records are the same.
 fn same_words(a: &[u8], b: &[u8]) -> bool
     requires { ⌜ length (now a) ≡ solutionSize ⌝ }
     requires { ⌜ length (now b) ≡ solutionSize ⌝ }
     ensures { λ r. ⌜ r ≡ sameList (now (a .entry)) (now (b .entry)) ⌝ }
 {
-    if word(a, 0) != word(b, 0) {
+    if edges::word_within(a, 0) != edges::word_within(b, 0) {
         return false;
     }
-    word(a, 8) == word(b, 8)
+    edges::word_within(a, 8) == edges::word_within(b, 8)
 }
 
 // The record is that of a solution.
