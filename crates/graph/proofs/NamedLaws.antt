@@ -13,7 +13,7 @@ use Rattle.spec.specs.declared.Vertex.{Vertex}
 use Rattle.spec.specs.declared.Vertex.the-variants.{AS}
 use Rattle.spec.specs.declared.Edge.{Edge}
 use Rattle.spec.specs.declared.SolutionEdge.{SolutionEdge}
-use Rattle.spec.specs.Limits.{maxEdges}
+use Rattle.spec.specs.Limits.{maxEdges, solutionSize}
 use Rattle.spec.specs.Basics.{if_then_else_, any, range, sum, sameList}
 use Rattle.spec.specs.Edges.{sameVertex, storedEdges}
 use Rattle.spec.specs.Chains.{allowedKinds, Leads, IsChain, chains}
@@ -24,6 +24,7 @@ use Rattle.spec.proofs.Lists.{length-range}
 use Rattle.spec.proofs.Membership.{T-true, true-T, and-true, true-and, not-both, filter-mem, mem-filter, map-mem, mem-map, flatMap-mem, mem-flatMap}
 use Rattle.spec.proofs.Vertices.{sameVertex-eq, eq-sameVertex}
 use Rattle.spec.proofs.ByteLaws.{edges-back}
+use Rattle.spec.proofs.LengthLaws.{solution-length}
 use Rattle.spec.proofs.ChainLaws.{Among, allowed-length, chains-sound, chains-complete}
 use Rattle.spec.proofs.OnceLaws.{any-mem}
 use Rattle.spec.proofs.AnswerLaws.{sameList-eq, sameList-refl, record-chain}
@@ -226,6 +227,17 @@ module _ (b : List ℕ) (src dst : IsdAsn) (r : List ℕ) where
       let v = recorded-mem l in
       record-chain b src dst c d (u .0) (v .0) (sym (u .1) ∙ v .1)
 
+  recorded-none : ((c : List Edge) → IsChain b src dst c → r ≡ solutionOctets c → ⊥) → Stranger ≡ chainIn (recordedChains b src dst r)
+  recorded-none none = go (recordedChains b src dst r) refl
+    where
+      go : (cs : List (List Edge)) → recordedChains b src dst r ≡ cs → Stranger ≡ chainIn cs
+      go [] q = refl
+      go (d ∷ ds) q = let w = recorded-mem (subst (Mem d) (sym q) (head refl)) in absurd (none d (w .0) (w .1))
+
+  -- no chain's record is of that length
+  pub recorded-size : (length r ≡ solutionSize → ⊥) → Stranger ≡ chainIn (recordedChains b src dst r)
+  recorded-size d = recorded-none (λ c p q. d (ap length q ∙ solution-length c (allowed-length c (p .kinds))))
+
   module _ {n : ℕ} (m : n ≡ getD r 2 0) where
     abbrev ids : List SolutionEdge
     ids = map (recordEdge r) (range 0 n)
@@ -307,10 +319,4 @@ module _ (b : List ℕ) (src dst : IsdAsn) (r : List ℕ) where
 
     -- no chain has so many edges
     pub recorded-long : maxEdges < n → Stranger ≡ chainIn (recordedChains b src dst r)
-    recorded-long h = go (recordedChains b src dst r) refl
-      where
-        go : (cs : List (List Edge)) → recordedChains b src dst r ≡ cs → Stranger ≡ chainIn cs
-        go [] q = refl
-        go (d ∷ ds) q =
-            let w = recorded-mem (subst (Mem d) (sym q) (head refl)) in
-            absurd (omega (arith, own-size d (own-ids d (w .1)), allowed-length d (w .0 .kinds)))
+    recorded-long h = recorded-none (λ c p q. omega (arith, own-size c (own-ids c q), allowed-length c (p .kinds)))

@@ -16,7 +16,7 @@ use Rattle.spec.specs.declared.Verdict.{Verdict}
 use Rattle.spec.specs.declared.Verdict.the-variants.{Accepted, Refused as RefusedBook}
 use Rattle.spec.specs.declared.Refusal.{Refusal}
 use Rattle.spec.specs.Limits.{maxEdges}
-use Rattle.spec.specs.Basics.{if_then_else_, any, range, sameList}
+use Rattle.spec.specs.Basics.{if_then_else_, any, range}
 use Rattle.spec.specs.Book.{verdict}
 use Rattle.spec.specs.Records.{bit, noEdge, recordEdge}
 use Rattle.graph.specs.declared.chains.Way.{Way}
@@ -41,20 +41,6 @@ pub passes : {s x t y : Bool} → s ≡ x → s ≡ true → t ≡ y → t ≡ (
 passes {y = y} p q r = r ∙ sym (ap (λ t. t && y) (sym p ∙ q))
 
 -- ---- a record and the one that was made of the edges
-
-other-length : (xs ys : List ℕ) → (length xs ≡ length ys → ⊥) → sameList xs ys ≡ false
-unfolding sameList
-other-length [] [] n = absurd (n refl)
-other-length [] (y ∷ ys) n = refl
-other-length (x ∷ xs) [] n = refl
-other-length (x ∷ xs) (y ∷ ys) n = go (eqb x y) (other-length xs ys (λ q. n (ap suc q)))
-  where
-    go : (t : Bool) → sameList xs ys ≡ false → (t && sameList xs ys) ≡ false
-    go true q = q
-    go false q = refl
-
-pub other-size : (given : List ℕ) (s : Solution) → (length given ≡ 16 → ⊥) → sameList given (recordOctets s) ≡ false
-other-size given s n = other-length given (recordOctets s) (λ q. n (q ∙ record-length s))
 
 pub own-size : {own : List ℕ} (s : Solution) → own ≡ recordOctets s → length own ≡ 16
 own-size s e = ap length e ∙ record-length s

@@ -61,12 +61,10 @@ fn same_words(a: &[u8], b: &[u8]) -> bool
 
 // The record is that of a solution.
 fn same_record(given: &[u8], s: Solution) -> bool
+    requires { ⌜ length (now given) ≡ solutionSize ⌝ }
     ensures { λ r. ⌜ r ≡ sameList (now (given .entry)) (recordOctets s) ⌝ }
 {
     let own = slots::octets_of(s);
-    if given.len() != Solution::SIZE {
-        return false;
-    }
     same_words(given, &own)
 }
 
@@ -166,6 +164,7 @@ fn own_solution(given: &[u8], count: u8, cost: u16) -> Solution
 
 // The way has come to the goal by edges of allowed kinds, and the record is theirs.
 fn arrives(dst: IsdAsn, given: &[u8], count: u8, way: Way) -> bool
+    requires { ⌜ length (now given) ≡ solutionSize ⌝ }
     requires { ⌜ count ≤ maxEdges ⌝ }
     ensures { λ r. ⌜ r ≡ hasArrived dst (now (given .entry)) count way ⌝ }
 {
@@ -191,6 +190,7 @@ fn is_chain(
     count: u8,
 ) -> bool
     requires { ⌜ Ready (now book) (now table) ⌝ }
+    requires { ⌜ length (now given) ≡ solutionSize ⌝ }
     requires { ⌜ count ≤ maxEdges ⌝ }
     ensures { λ r. ⌜ r ≡ completed (now (book .entry)) dst (now (given .entry)) count (begun src) 0 ⌝ }
 {
@@ -220,11 +220,14 @@ const COUNT: usize = 2;
 
 const MOST: u8 = 3;
 
-// The chain of a record in an accepted book.
+// The chain of a record in an accepted book. Its length is tested first: the compiler then knows it at every read.
 fn chain_in(src: IsdAsn, dst: IsdAsn, book: &[u8], table: &[u16; PLACES], given: &[u8]) -> Chain
     requires { ⌜ Ready (now book) (now table) ⌝ }
     ensures { λ r. ⌜ r ≡ chainIn (recordedChains (now (book .entry)) src dst (now (given .entry))) ⌝ }
 {
+    if given.len() != Solution::SIZE {
+        return Chain::Stranger;
+    }
     let count = octets::byte(given, COUNT);
     if MOST < count {
         return Chain::Stranger;

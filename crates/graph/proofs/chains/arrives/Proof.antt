@@ -19,7 +19,10 @@ unfolding hasArrived
 returns-2 c = passes (c .before .before .before .same-vertex .ensures) (not-false _ (c .before .before .if1 .left)) (fails _ (c .before .kinds-allowed .ensures) (not-true _ (c .if2 .taken)))
 
 own-solution-requires : tie.Need-own-solution-requires
-own-solution-requires c κs = c .before .before .before .before .before .pre
+own-solution-requires c κs = c .before .before .before .before .before .pre .1
+
+same-record-requires : tie.Need-same-record-requires
+same-record-requires c κs = c .before .before .before .before .before .before .pre .0
 
 returns-3 : tie.Need-returns-3
 unfolding hasArrived
@@ -37,5 +40,5 @@ arrives-spec =
     (λ c κs. search needs)
     returns-2
     own-solution-requires
-    (λ c κs. search needs)
+    same-record-requires
     returns-3)

@@ -2,30 +2,33 @@
 -- Assumes nothing.
 use mathlib.Core.Path.{sym, _∙_}
 use mathlib.Core.Bool.{true, false}
-use native.Mathlib.Omega.{arith}
-use Rattle.graph.proofs.NamedLaws.{named-recorded, recorded-long}
+use Rattle.graph.proofs.NamedLaws.{recorded-size, recorded-long, named-recorded}
 use borrow.Author.Needs.{needs}
 use Rattle.graph.proofs.chains.chain_in.Statement.{statement}
 use Rattle.graph.proofs.chains.chain_in.Tie as tie
 
 returns : tie.Need-returns
-returns c = recorded-long _ _ _ _ (c .before .byte .ensures) (c .if1 .taken)
-
-is-chain-requires : tie.Need-is-chain-requires
-is-chain-requires c κs = (c .before .before .before .before .pre, c .if1 .left)
+returns c = recorded-size _ _ _ _ (c .if1 .taken)
 
 returns-2 : tie.Need-returns-2
-returns-2 c = sym (named-recorded _ _ _ _ (c .before .before .before .byte .ensures) (c .before .before .if1 .left) true (sym (c .before .is-chain .ensures) ∙ c .if2 .taken))
+returns-2 c = recorded-long _ _ _ _ (c .before .byte .ensures) (c .if2 .taken)
+
+is-chain-requires : tie.Need-is-chain-requires
+is-chain-requires c κs = (c .before .before .before .before .before .pre, (c .before .before .if1 .left, c .if2 .left))
 
 returns-3 : tie.Need-returns-3
-returns-3 c = sym (named-recorded _ _ _ _ (c .before .before .before .byte .ensures) (c .before .before .if1 .left) false (sym (c .before .is-chain .ensures) ∙ c .if2 .left))
+returns-3 c = sym (named-recorded _ _ _ _ (c .before .before .before .byte .ensures) (c .before .before .if2 .left) true (sym (c .before .is-chain .ensures) ∙ c .if3 .taken))
+
+returns-4 : tie.Need-returns-4
+returns-4 c = sym (named-recorded _ _ _ _ (c .before .before .before .byte .ensures) (c .before .before .if2 .left) false (sym (c .before .is-chain .ensures) ∙ c .if3 .left))
 
 pub chain-in-spec : {M : Type 1} → statement M
 chain-in-spec =
     tie.close
     (tie.spec
-    (λ c κs. search needs)
     returns
-    is-chain-requires
+    (λ c κs. search needs)
     returns-2
-    returns-3)
+    is-chain-requires
+    returns-3
+    returns-4)

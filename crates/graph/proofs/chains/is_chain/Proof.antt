@@ -31,10 +31,10 @@ unfolding begun
 returns-2 c = sym (c .before .before .before .before .before .before .before .before .loop .inv .2 ∙ edge-astray _ _ _ _ _ _ (c .before .before .before .before .before .before .before .loop-test .taken) (c .before .before .before .before .before .before .named-edge .ensures) _ (c .before .before .before .before .before .edge-of .ensures) (c .before .before .before .found .given .1) (c .before .goes-on .ensures) (not-true _ (c .if1 .taken)))
 
 past-requires : tie.Need-past-requires Inv-loop μ-loop
-past-requires c κs = short-two _ _ (omega (arith, c .before .before .before .before .before .before .before .before .before .before .before .pre .1)) (c .before .before .before .before .before .before .before .before .loop .inv .1)
+past-requires c κs = short-two _ _ (omega (arith, c .before .before .before .before .before .before .before .before .before .before .before .pre .1 .1)) (c .before .before .before .before .before .before .before .before .loop .inv .1)
 
 add-x : tie.Need-add-x Inv-loop μ-loop
-add-x c = omega (arith, c .before .before .before .before .before .before .before .before .before .before .before .before .pre .1)
+add-x c = omega (arith, c .before .before .before .before .before .before .before .before .before .before .before .before .pre .1 .1)
 
 loop-less : tie.Need-loop-less Inv-loop μ-loop
 loop-less c = omega arith
@@ -42,7 +42,7 @@ loop-less c = omega arith
 loop-again : tie.Need-loop-again Inv-loop μ-loop
 loop-again c = (
   omega arith,
-  short-past _ _ _ (omega (arith, c .before .before .before .before .before .before .before .before .before .before .before .before .pre .1)) (c .before .before .before .before .before .before .before .before .before .loop .inv .1) (c .past .ensures .0) (c .past .ensures .1),
+  short-past _ _ _ (omega (arith, c .before .before .before .before .before .before .before .before .before .before .before .before .pre .1 .1)) (c .before .before .before .before .before .before .before .before .before .loop .inv .1) (c .past .ensures .0) (c .past .ensures .1),
   c .before .before .before .before .before .before .before .before .before .loop .inv .2 ∙ edge-passed _ _ _ _ _ _ (c .before .before .before .before .before .before .before .before .loop-test .taken) (c .before .before .before .before .before .before .before .named-edge .ensures) _ (c .before .before .before .before .before .before .edge-of .ensures) (c .before .before .before .before .found .given .1) (c .before .before .goes-on .ensures) (not-false _ (c .before .if1 .left)) (c .past .ensures .0),
 )
 
