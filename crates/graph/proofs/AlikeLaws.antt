@@ -1,9 +1,9 @@
--- A segment that has an entry has its id, and the last byte of its first MAC, in common with every segment that equals it.
+-- A segment that has an entry has its timestamp, id and entry count, and the last byte of its first MAC, in common with every segment that equals it.
 -- Assumes nothing.
-use Prim.Native.Nat.{ℕ, zero, suc, _+_, _-_, _*_, _≤_, _<_}
+use Prim.Native.Nat.{ℕ, zero, suc, _+_, _-_, _*_, _^_, _≤_, _<_}
 use native.Mathlib.Decide.{ℕ-discrete}
 use native.Mathlib.Omega.{arith}
-use mathlib.Core.Path.{_≡_, refl, sym, ap, _∙_}
+use mathlib.Core.Path.{_≡_, refl, sym, ap, ap₂, _∙_}
 use mathlib.Core.Bool.{Bool, true, false, _&&_}
 use mathlib.Core.List.{List, [], _∷_}
 use lib.ListN.{length, getD, set, take, drop, replicate, length-take, length-drop}
@@ -11,10 +11,10 @@ use lib.Seq.{getD-take, getD-drop}
 use lib.Dec.{ltb, eqb}
 use borrow.Author.Tests.{ltb-true, ltb-false, eqb-true}
 use Rattle.spec.specs.declared.Verdict.the-variants.{Accepted}
-use Rattle.spec.specs.Limits.{headSize, entrySize, maxSegments, maxEntries}
+use Rattle.spec.specs.Limits.{sizesSize, headSize, entrySize, peerSize, peerCountOffset, maxSegments, maxEntries}
 use Rattle.spec.specs.Basics.{any, range, sameList}
-use Rattle.spec.specs.Octets.{be16}
-use Rattle.spec.specs.Book.{Segment, segmentAt, segmentCount, headOffset, wholeLength, idAt, entryCountAt, bodyLengthAt, bodyOffset, entryOffset, verdict}
+use Rattle.spec.specs.Octets.{be16, be32, be64}
+use Rattle.spec.specs.Book.{Segment, segmentAt, segmentCount, headOffset, wholeLength, timestampAt, idAt, entryCountAt, bodyLengthAt, bodyOffset, peerCount, entryEnd, entryOffset, verdict}
 use Rattle.spec.specs.Edges.{sameBool, sameSegment}
 use Rattle.spec.proofs.Membership.{and-true}
 use Rattle.spec.proofs.BookLaws.{AcceptedBook, accepted}
@@ -26,7 +26,7 @@ use Rattle.book.proofs.Tables.{table-at}
 use Rattle.equal.proofs.Sameness.{repeats, repeats-is}
 use Rattle.graph.specs.Leaving.{entryCount}
 use Rattle.graph.specs.Ready.{Ready}
-use Rattle.graph.specs.Alike.{macByteAt}
+use Rattle.graph.specs.Alike.{headWordAt, macByteAt}
 use Rattle.graph.proofs.LookupReads.{count-read}
 
 -- ---- every offset of the table has an entry's bytes after it in the book
@@ -62,13 +62,13 @@ module _ (b : List ℕ) (a : AcceptedBook b) (long : entrySize ≤ length b) whe
 
 -- ---- what is read
 
-pub id-read : (b : List ℕ) (k : ℕ) {x : ℕ} → x ≡ be16 b (12 + headSize * k) → x ≡ idAt b k
-unfolding idAt headOffset
-id-read b k e = let f : 12 + headSize * k ≡ 8 + headSize * k + 4 = omega arith in e ∙ ap (be16 b) f
+pub head-read : (b : List ℕ) (k : ℕ) {x : ℕ} → x ≡ be64 b (sizesSize + headSize * k) → x ≡ headWordAt b k
+unfolding headWordAt headOffset
+head-read b k e = e
 
-pub id-within : (b : List ℕ) → verdict b ≡ Accepted → (k : ℕ) → k < segmentCount b → 12 + headSize * k + 2 ≤ length b
+pub head-within : (b : List ℕ) → verdict b ≡ Accepted → (k : ℕ) → k < segmentCount b → sizesSize + headSize * k + 8 ≤ length b
 unfolding wholeLength headOffset
-id-within b ok k h = let w = accepted b ok .whole in omega arith
+head-within b ok k h = let w = accepted b ok .whole in omega arith
 
 module _ (b t : List ℕ) (r : Ready b t) where
   book : AcceptedBook b
@@ -121,14 +121,86 @@ module _ (b t : List ℕ) (r : Ready b t) where
             let z : entryOffset b (bodyOffset b k) 0 ≡ bodyOffset b k = unfold entryOffset in refl in
             omega (arith, body-filled b book k h, ap (entryOffset b (bodyOffset b k)) e)
 
+-- ---- equal bodies have as many entries
+
+module _ (b : List ℕ) (a : AcceptedBook b) where
+  body-length : (k : ℕ) → k < segmentCount b → length (segmentAt b k .body) ≡ bodyLengthAt b k
+  unfolding segmentAt
+  body-length k h = omega (arith, length-take (bodyLengthAt b k) (drop (bodyOffset b k) b), length-drop (bodyOffset b k) b, body-end b a k h)
+
+  body-byte : (k i : ℕ) → i < bodyLengthAt b k → getD b (bodyOffset b k + i) 0 ≡ getD (segmentAt b k .body) i 0
+  unfolding segmentAt
+  body-byte k i l = sym (getD-drop (bodyOffset b k) b i 0) ∙ sym (getD-take (bodyLengthAt b k) (drop (bodyOffset b k) b) i 0 l)
+
+  module _ (k j : ℕ) (h : k < segmentCount b) (l : j < segmentCount b) (q : segmentAt b k .body ≡ segmentAt b j .body) where
+    as-long : bodyLengthAt b k ≡ bodyLengthAt b j
+    as-long = sym (body-length k h) ∙ ap length q ∙ body-length j l
+
+    -- an entry is as far from the start of either
+    record Far (i : ℕ) : Type 0 where
+      far : ℕ
+      here : entryOffset b (bodyOffset b k) i ≡ bodyOffset b k + far
+      there : entryOffset b (bodyOffset b j) i ≡ bodyOffset b j + far
+
+    same-peers : (d : ℕ) → d + entrySize ≤ bodyLengthAt b k → peerCount b (bodyOffset b k + d) ≡ peerCount b (bodyOffset b j + d)
+    unfolding peerCount
+    same-peers d s =
+        let e : bodyOffset b k + d + peerCountOffset ≡ bodyOffset b k + (d + peerCountOffset) = omega arith in
+        let f : bodyOffset b j + d + peerCountOffset ≡ bodyOffset b j + (d + peerCountOffset) = omega arith in
+        ap (λ m. getD b m 0) e
+        ∙ body-byte k (d + peerCountOffset) (omega arith)
+        ∙ ap (λ x. getD x (d + peerCountOffset) 0) q
+        ∙ sym (body-byte j (d + peerCountOffset) (omega (arith, as-long)))
+        ∙ sym (ap (λ m. getD b m 0) f)
+
+    far-next : (i : ℕ) → i < entryCountAt b k → Far i → Far (suc i)
+    unfolding entryOffset entryEnd
+    far-next i n f =
+        let p = entry-place b a k h i n .entry in
+        let d = f .far in
+        let e = same-peers d (omega (arith, f .here)) in
+        record {
+          far = d + entrySize + peerSize * peerCount b (bodyOffset b k + d);
+          here = omega (arith, f .here, ap (peerCount b) (f .here));
+          there = omega (arith, f .there, ap (peerCount b) (f .there), e);
+        }
+
+    far-of : (i : ℕ) → i ≤ entryCountAt b k → Far i
+    unfolding entryOffset
+    far-of zero n = record { far = 0; here = omega arith; there = omega arith }
+    far-of (suc i) n = far-next i (omega arith) (far-of i (omega arith))
+
+    no-more : entryCountAt b j ≤ entryCountAt b k
+    no-more = go (ltb (entryCountAt b k) (entryCountAt b j)) refl
+      where
+        go : (t : Bool) → ltb (entryCountAt b k) (entryCountAt b j) ≡ t → entryCountAt b j ≤ entryCountAt b k
+        go false e = ltb-false _ _ e
+        go true e =
+            let f = far-of (entryCountAt b k) (omega arith) in
+            let p = entry-place b a j l (entryCountAt b k) (ltb-true _ _ e) .entry in
+            absurd (omega (arith, f .here, f .there, body-filled b a k h, as-long))
+
+  same-count : (k j : ℕ) → k < segmentCount b → j < segmentCount b → segmentAt b k .body ≡ segmentAt b j .body → entryCountAt b k ≡ entryCountAt b j
+  same-count k j h l q = omega (arith, no-more k j h l q, no-more j k l h (sym q))
+
 -- ---- equal segments
 
-same-parts : (s u : Segment) → sameSegment s u ≡ true → (s .id ≡ u .id) × (s .body ≡ u .body)
+same-parts : (s u : Segment) → sameSegment s u ≡ true → (s .timestamp ≡ u .timestamp) × (s .id ≡ u .id) × (s .body ≡ u .body)
 unfolding sameSegment
 same-parts s u q =
     let p = and-true ((sameBool (s .core) (u .core) && eqb (s .timestamp) (u .timestamp)) && eqb (s .id) (u .id)) (sameList (s .body) (u .body)) q in
     let i = and-true (sameBool (s .core) (u .core) && eqb (s .timestamp) (u .timestamp)) (eqb (s .id) (u .id)) (p .0) in
-    (eqb-true _ _ (i .1), sameList-eq _ _ (p .1))
+    let t = and-true (sameBool (s .core) (u .core)) (eqb (s .timestamp) (u .timestamp)) (i .0) in
+    (eqb-true _ _ (t .1), eqb-true _ _ (i .1), sameList-eq _ _ (p .1))
+
+word-parts : (b : List ℕ) (k : ℕ) → headWordAt b k ≡ timestampAt b k * 2 ^ 32 + (idAt b k * 2 ^ 16 + entryCountAt b k)
+unfolding headWordAt be64 be32 timestampAt idAt entryCountAt
+word-parts b k =
+    let e : headOffset k + 4 + 2 ≡ headOffset k + 6 = omega arith in
+    ap (λ m. be32 b (headOffset k) * 2 ^ 32 + (be16 b (headOffset k + 4) * 2 ^ 16 + be16 b m)) e
+
+same-word : (b : List ℕ) (k j : ℕ) → timestampAt b k ≡ timestampAt b j → idAt b k ≡ idAt b j → entryCountAt b k ≡ entryCountAt b j → headWordAt b k ≡ headWordAt b j
+same-word b k j p q s = word-parts b k ∙ ap₂ (λ t u. t * 2 ^ 32 + u) p (ap₂ (λ i n. i * 2 ^ 16 + n) q s) ∙ sym (word-parts b j)
 
 module _ (b t : List ℕ) (r : Ready b t) (k : ℕ) (h : k < segmentCount b) (some : 0 < entryCount (segmentAt b k)) where
   -- what equals a segment with an entry has one
@@ -143,27 +215,27 @@ module _ (b t : List ℕ) (r : Ready b t) (k : ℕ) (h : k < segmentCount b) (so
           above zero d = absurd (d refl)
           above (suc n) d = omega arith
 
-  alike : (j : ℕ) → j < segmentCount b → sameSegment (segmentAt b k) (segmentAt b j) ≡ true → (idAt b j ≡ idAt b k) × (macByteAt b t j ≡ macByteAt b t k)
+  alike : (j : ℕ) → j < segmentCount b → sameSegment (segmentAt b k) (segmentAt b j) ≡ true → (headWordAt b j ≡ headWordAt b k) × (macByteAt b t j ≡ macByteAt b t k)
   alike j l q =
       let p = same-parts (segmentAt b k) (segmentAt b j) q in (
-        unfold segmentAt in sym (p .0),
-        mac-body b t r j l (same-some j l (p .1)) ∙ ap (λ x. getD x 24 0) (sym (p .1)) ∙ sym (mac-body b t r k h some),
+        sym (same-word b k j (unfold segmentAt in p .0) (unfold segmentAt in p .1) (same-count b (accepted b (r .ok)) k j h l (p .2))),
+        mac-body b t r j l (same-some j l (p .2)) ∙ ap (λ x. getD x 24 0) (sym (p .2)) ∙ sym (mac-body b t r k h some),
       )
 
   -- positions that are passed over
-  module _ {id mac : ℕ} (ei : id ≡ idAt b k) (em : mac ≡ macByteAt b t k) where
-    other : (j : ℕ) → j < k → (idAt b j ≡ id → macByteAt b t j ≡ mac → ⊥) → repeats b k j ≡ false
+  module _ {word mac : ℕ} (ew : word ≡ headWordAt b k) (em : mac ≡ macByteAt b t k) where
+    other : (j : ℕ) → j < k → (headWordAt b j ≡ word → macByteAt b t j ≡ mac → ⊥) → repeats b k j ≡ false
     other j l d = repeats-is b k j l ∙ go (sameSegment (segmentAt b k) (segmentAt b j)) refl
       where
         go : (x : Bool) → sameSegment (segmentAt b k) (segmentAt b j) ≡ x → x ≡ false
-        go true q = let w = alike j (omega arith) q in absurd (d (w .0 ∙ sym ei) (w .1 ∙ sym em))
+        go true q = let w = alike j (omega arith) q in absurd (d (w .0 ∙ sym ew) (w .1 ∙ sym em))
         go false q = refl
 
-    pub alike-skipped : (i j : ℕ) → i ≤ j → j ≤ k → ((m : ℕ) → i ≤ m → m < j → idAt b m ≡ id → macByteAt b t m ≡ mac → ⊥)
+    pub alike-skipped : (i j : ℕ) → i ≤ j → j ≤ k → ((m : ℕ) → i ≤ m → m < j → headWordAt b m ≡ word → macByteAt b t m ≡ mac → ⊥)
         → any (repeats b k) (range i (segmentCount b - i)) ≡ any (repeats b k) (range j (segmentCount b - j))
     alike-skipped i j p q none = go (j - i) i (omega arith) none
       where
-        go : (d i : ℕ) → i + d ≡ j → ((m : ℕ) → i ≤ m → m < j → idAt b m ≡ id → macByteAt b t m ≡ mac → ⊥)
+        go : (d i : ℕ) → i + d ≡ j → ((m : ℕ) → i ≤ m → m < j → headWordAt b m ≡ word → macByteAt b t m ≡ mac → ⊥)
             → any (repeats b k) (range i (segmentCount b - i)) ≡ any (repeats b k) (range j (segmentCount b - j))
         go zero i e f = let s : i ≡ j = omega arith in ap (λ m. any (repeats b k) (range m (segmentCount b - m))) s
         go (suc d) i e f =
@@ -171,19 +243,19 @@ module _ (b t : List ℕ) (r : Ready b t) (k : ℕ) (h : k < segmentCount b) (so
             ∙ go d (i + 1) (omega arith) (λ m a l. f m (omega arith) l)
 
 -- the positions from an earlier one up to j, and j itself, differ
-module _ (b t : List ℕ) (from j : ℕ) {id mac : ℕ} (none : (i : ℕ) → from ≤ i → i < j → idAt b i ≡ id → macByteAt b t i ≡ mac → ⊥) where
-  more : (idAt b j ≡ id → macByteAt b t j ≡ mac → ⊥) → (i : ℕ) → from ≤ i → i < j + 1 → idAt b i ≡ id → macByteAt b t i ≡ mac → ⊥
+module _ (b t : List ℕ) (from j : ℕ) {word mac : ℕ} (none : (i : ℕ) → from ≤ i → i < j → headWordAt b i ≡ word → macByteAt b t i ≡ mac → ⊥) where
+  more : (headWordAt b j ≡ word → macByteAt b t j ≡ mac → ⊥) → (i : ℕ) → from ≤ i → i < j + 1 → headWordAt b i ≡ word → macByteAt b t i ≡ mac → ⊥
   more d i l h = go (ltb i j) refl
     where
-      go : (x : Bool) → ltb i j ≡ x → idAt b i ≡ id → macByteAt b t i ≡ mac → ⊥
+      go : (x : Bool) → ltb i j ≡ x → headWordAt b i ≡ word → macByteAt b t i ≡ mac → ⊥
       go true e p q = none i l (ltb-true _ _ e) p q
       go false e p q =
           let g : j ≤ i = ltb-false _ _ e in
           let s : i ≡ j = omega arith in
-          d (sym (ap (idAt b) s) ∙ p) (sym (ap (macByteAt b t) s) ∙ q)
+          d (sym (ap (headWordAt b) s) ∙ p) (sym (ap (macByteAt b t) s) ∙ q)
 
-  pub other-id : {x : ℕ} → x ≡ idAt b j → (x ≡ id → ⊥) → (i : ℕ) → from ≤ i → i < j + 1 → idAt b i ≡ id → macByteAt b t i ≡ mac → ⊥
-  other-id e d = more (λ p q. d (e ∙ p))
+  pub other-word : {x : ℕ} → x ≡ headWordAt b j → (x ≡ word → ⊥) → (i : ℕ) → from ≤ i → i < j + 1 → headWordAt b i ≡ word → macByteAt b t i ≡ mac → ⊥
+  other-word e d = more (λ p q. d (e ∙ p))
 
-  pub other-mac : {x : ℕ} → x ≡ macByteAt b t j → (x ≡ mac → ⊥) → (i : ℕ) → from ≤ i → i < j + 1 → idAt b i ≡ id → macByteAt b t i ≡ mac → ⊥
+  pub other-mac : {x : ℕ} → x ≡ macByteAt b t j → (x ≡ mac → ⊥) → (i : ℕ) → from ≤ i → i < j + 1 → headWordAt b i ≡ word → macByteAt b t i ≡ mac → ⊥
   other-mac e d = more (λ p q. d (e ∙ q))

@@ -18,7 +18,7 @@ use Rattle.spec.specs.declared.Verdict.the-variants.{Accepted}
 use Rattle.spec.specs.declared.Edge.{Edge}
 use Rattle.spec.specs.Limits.{headSize, entrySize, peerSize, maxSegments, maxEntries}
 use Rattle.spec.specs.Basics.{if_then_else_, any, filter, range}
-use Rattle.spec.specs.Octets.{be16, be32}
+use Rattle.spec.specs.Octets.{be16}
 use Rattle.spec.specs.Book.{Segment, segmentAt, segmentCount, sizesAt, headOffset, wholeLength, verdict, entryCountAt, bodyOffset, isdAsnAt, peerCount, peerEntryAt, peerOffset, entryOffset}
 use Rattle.spec.specs.Edges.{sameAs, sameVertex, asOf, leafAs, peerOf, inConstruction, edgeOf}
 use Rattle.spec.proofs.Membership.{not-both}
@@ -26,7 +26,6 @@ use Rattle.spec.proofs.Vertices.{sameAs-eq, sameVertex-eq, eq-sameVertex}
 use Rattle.spec.proofs.OnceLaws.{any-mem, segment-position}
 use Rattle.spec.proofs.BookLaws.{AcceptedBook, accepted, mem-range, entry-count, segment-length}
 use Rattle.spec.proofs.BodyLaws.{body-end, entry-place, peer-place}
-use Rattle.octets.proofs.Halves.{halves64}
 use Rattle.book.specs.Offsets.{openTable}
 use Rattle.segment.proofs.Fitting.{position-small}
 use Rattle.book.proofs.Tables.{open-accepted, table-at, table-as, table-peers, table-peer}
@@ -303,14 +302,6 @@ module _ (b : List ℕ) (a : verdict b ≡ Accepted) (k : ℕ) (h : k < segmentC
   count-low =
       let e : headOffset k + 6 + 1 ≡ 15 + headSize * k = omega arith in
       omega (arith, ap (λ n. getD b n 0) e, count-read b k, entry-count b (accepted b a) k h)
-
--- an AS of two halves
-abbrev as-number : ℕ → IsdAsn
-as-number n = record { 0 = n }
-
-pub as-halves : (b : List ℕ) (at : ℕ) {x y : ℕ} → x ≡ be32 b at → y ≡ be32 b (at + 4) → as-number (x * 4294967296 + y) ≡ isdAsnAt b at
-unfolding isdAsnAt
-as-halves b at p q = ap as-number (halves64 b at p q)
 
 -- ---- edges
 

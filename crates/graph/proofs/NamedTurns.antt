@@ -1,13 +1,14 @@
 -- The chain of a record, step by step: what each test and each edge that is looked up settles.
 -- Assumes nothing.
-use Prim.Native.Nat.{ℕ, suc, _≤_}
+use Prim.Native.Nat.{ℕ, suc, zero, _+_, _-_, _*_, _^_, _≤_, _<_}
+use native.Mathlib.Omega.{arith}
 use mathlib.Core.Path.{_≡_, refl, sym, ap, _∙_}
-use mathlib.Core.Bool.{Bool, true, false, _&&_}
-use mathlib.Core.List.{List, [], _∷_, map, flatMap, append-nil, List·Memᴰ as Mem}
-use lib.ListN.{length, getD, length-map}
+use mathlib.Core.Bool.{Bool, true, false, _&&_, _||_, not}
+use mathlib.Core.List.{List, [], _∷_, _++_, map, flatMap, append-nil}
+use lib.ListN.{length, replicate}
 use lib.Dec.{eqb}
+use borrow.Author.Tests.{eq-eqb, ne-eqb, lt-ltb, le-ltb}
 use Rattle.spec.specs.declared.IsdAsn.{IsdAsn}
-use Rattle.spec.specs.declared.Vertex.the-variants.{AS}
 use Rattle.spec.specs.declared.Edge.{Edge}
 use Rattle.spec.specs.declared.SolutionEdge.{SolutionEdge}
 use Rattle.spec.specs.declared.Solution.{Solution}
@@ -15,28 +16,21 @@ use Rattle.spec.specs.declared.Verdict.{Verdict}
 use Rattle.spec.specs.declared.Verdict.the-variants.{Accepted, Refused as RefusedBook}
 use Rattle.spec.specs.declared.Refusal.{Refusal}
 use Rattle.spec.specs.Limits.{maxEdges}
-use Rattle.spec.specs.Basics.{if_then_else_, filter, range, sameList}
+use Rattle.spec.specs.Basics.{if_then_else_, any, range}
 use Rattle.spec.specs.Book.{verdict}
-use Rattle.spec.specs.Edges.{sameAs}
-use Rattle.spec.specs.Chains.{allowedKinds}
-use Rattle.spec.specs.Records.{solutionIn, solutionOf, recordEdge}
-use Rattle.spec.specs.ByRecord.{edgesIn}
-use Rattle.spec.proofs.Lists.{length-range}
+use Rattle.spec.specs.Records.{bit, noEdge, recordEdge}
+use Rattle.graph.specs.declared.chains.Way.{Way}
+use Rattle.graph.specs.declared.Chain.{Chain}
+use Rattle.graph.specs.declared.Chain.the-variants.{Refused}
 use Rattle.graph.specs.declared.Found.{Found}
 use Rattle.graph.specs.declared.Found.the-variants.{Edge as FoundEdge, Nothing}
 use Rattle.graph.specs.Lookup.{foundEdges}
 use Rattle.graph.specs.Identity.{identifiedIn}
 use Rattle.graph.specs.Pushed.{recordOctets}
-use Rattle.graph.specs.Recorded.{isRecordOf, recordedChains, Recorded, recorded}
-use Rattle.graph.specs.Named.{ahead, withIdentities, leadsBy, isWay, passing, chainsNamed}
-use Rattle.graph.proofs.PushedRecords.{record-length, record-of}
-use Rattle.graph.proofs.SearchLists.{filter-same}
-use Rattle.graph.proofs.RecordedLaws.{recorded-accepted, recorded-refused}
-use Rattle.graph.proofs.NamedLaws.{with-sound, named-recorded}
-
--- what is said of an accepted book
-pub said : {l m : List (List Edge)} → l ≡ m → _≡_ {A = Recorded} (Accepted, l) (Accepted, m)
-said q = ap {B = Recorded} (λ l. (Accepted, l)) q
+use Rattle.graph.specs.Recorded.{recordedChains, chainIn, recordedOn, recorded}
+use Rattle.graph.specs.Named.{ahead, withIdentities, goesOn, pastEdge, Short, kindsAllowed, ownEdge, ownSolution, hasArrived, completes, completed}
+use Rattle.graph.proofs.PushedRecords.{record-length}
+use Rattle.graph.proofs.SearchLists.{range-turn}
 
 -- ---- two tests, one after the other
 
@@ -48,164 +42,159 @@ passes {y = y} p q r = r ∙ sym (ap (λ t. t && y) (sym p ∙ q))
 
 -- ---- a record and the one that was made of the edges
 
-other-length : (xs ys : List ℕ) → (length xs ≡ length ys → ⊥) → sameList xs ys ≡ false
-unfolding sameList
-other-length [] [] n = absurd (n refl)
-other-length [] (y ∷ ys) n = refl
-other-length (x ∷ xs) [] n = refl
-other-length (x ∷ xs) (y ∷ ys) n = go (eqb x y) (other-length xs ys (λ q. n (ap suc q)))
-  where
-    go : (t : Bool) → sameList xs ys ≡ false → (t && sameList xs ys) ≡ false
-    go true q = q
-    go false q = refl
-
-pub other-size : (given : List ℕ) (s : Solution) → (length given ≡ 16 → ⊥) → sameList given (recordOctets s) ≡ false
-other-size given s n = other-length given (recordOctets s) (λ q. n (q ∙ record-length s))
-
 pub own-size : {own : List ℕ} (s : Solution) → own ≡ recordOctets s → length own ≡ 16
 own-size s e = ap length e ∙ record-length s
 
--- ---- one list of edges, by the tests
+own-edges : (r : List ℕ) (n : ℕ) → n ≤ maxEdges
+    → ownEdge r n 0 ∷ ownEdge r n 1 ∷ ownEdge r n 2 ∷ [] ≡ map (recordEdge r) (range 0 n) ++ replicate (maxEdges - n) noEdge
+unfolding ownEdge range
+own-edges r zero h = refl
+own-edges r (suc zero) h = refl
+own-edges r (suc (suc zero)) h = refl
+own-edges r (suc (suc (suc zero))) h = refl
+own-edges r (suc (suc (suc (suc n)))) h = absurd (omega arith)
 
-module _ (src dst : IsdAsn) (r : List ℕ) where
-  by-tests : (c : List Edge) (s t : Bool) → isWay src dst c ≡ s → isRecordOf r c ≡ t
-      → passing src dst r (c ∷ []) ≡ (if s then (if t then c ∷ [] else []) else [])
-  unfolding passing filter
-  by-tests c true t p q =
-      ap (λ u. filter (isRecordOf r) (if u then c ∷ [] else [])) p ∙ ap (λ u. if u then c ∷ [] else []) q
-  by-tests c false t p q = ap (λ u. filter (isRecordOf r) (if u then c ∷ [] else [])) p
+module _ (r : List ℕ) (n k : ℕ) {e : SolutionEdge} where
+  pub own-used : k < n → e ≡ recordEdge r k → e ≡ ownEdge r n k
+  unfolding ownEdge
+  own-used h q = q ∙ sym (ap (λ t. if t then recordEdge r k else noEdge) (lt-ltb k n h))
 
-  -- the code's test of the record
-  tested : (c : List Edge) (s : Solution) → length c ≤ maxEdges → s ≡ solutionOf c → sameList r (recordOctets s) ≡ isRecordOf r c
-  unfolding isRecordOf
-  tested c s h q = ap (sameList r) (ap recordOctets q ∙ record-of c h)
+  pub own-unused : n ≤ k → e ≡ noEdge → e ≡ ownEdge r n k
+  unfolding ownEdge
+  own-unused h q = q ∙ sym (ap (λ t. if t then recordEdge r k else noEdge) (le-ltb k n h))
 
-  module _ (c : List Edge) {way : Bool} (w : way ≡ isWay src dst c) where
-    pub astray : way ≡ false → [] ≡ passing src dst r (c ∷ [])
-    astray q = sym (by-tests c false _ (sym w ∙ q) refl)
+pub own-solution : (r : List ℕ) (n cost : ℕ) → n ≤ maxEdges → {x y z : SolutionEdge} → x ≡ ownEdge r n 0 → y ≡ ownEdge r n 1 → z ≡ ownEdge r n 2
+    → {s : Solution} → s ≡ record { cost = cost; count = n; edges = x ∷ y ∷ z ∷ [] } → s ≡ ownSolution r n cost
+unfolding ownSolution
+own-solution r n cost h p q u e = let o = own-edges r n h in cc
 
-    module _ {s : Solution} {own : Bool} (h : length c ≤ maxEdges) (e : s ≡ solutionOf c) (o : own ≡ sameList r (recordOctets s)) (q : way ≡ true) where
-      pub not-its : own ≡ false → [] ≡ passing src dst r (c ∷ [])
-      not-its p = sym (by-tests c true false (sym w ∙ q) (sym (tested c s h e) ∙ sym o ∙ p))
+-- ---- kinds
 
-      pub its : own ≡ true → c ∷ [] ≡ passing src dst r (c ∷ [])
-      its p = sym (by-tests c true true (sym w ∙ q) (sym (tested c s h e) ∙ sym o ∙ p))
+module _ (n k : ℕ) where
+  pub one-allowed : n ≡ 1 → true ≡ kindsAllowed n k
+  unfolding kindsAllowed
+  one-allowed e = sym (ap (λ t. if t then true else if eqb n 2 then not (eqb k 3) else eqb k 2) (eq-eqb n 1 e))
+
+  module _ (d : n ≡ 1 → ⊥) where
+    more : kindsAllowed n k ≡ (if eqb n 2 then not (eqb k 3) else eqb k 2)
+    unfolding kindsAllowed
+    more = ap (λ t. if t then true else if eqb n 2 then not (eqb k 3) else eqb k 2) (ne-eqb n 1 d)
+
+    pub two-allowed : n ≡ 2 → not (eqb k 3) ≡ kindsAllowed n k
+    two-allowed e = sym (more ∙ ap (λ t. if t then not (eqb k 3) else eqb k 2) (eq-eqb n 2 e))
+
+    pub three-allowed : (n ≡ 2 → ⊥) → eqb k 2 ≡ kindsAllowed n k
+    three-allowed f = sym (more ∙ ap (λ t. if t then not (eqb k 3) else eqb k 2) (ne-eqb n 2 f))
+
+-- ---- how far edges have come
+
+bit-small : (t : Bool) → bit t ≤ 1
+unfolding bit
+bit-small true = omega arith
+bit-small false = omega arith
+
+pub kinds-next : (k : ℕ) (t : Bool) {x : ℕ} → k < 4 → x ≡ bit t → k * 2 + x < 256
+kinds-next k t h e = omega (arith, bit-small t)
+
+pub short-two : (w : Way) (x : ℕ) → x < maxEdges → Short x w → Short 2 w
+short-two w zero h s = let p = s .cost in let q = s .kinds in record { cost = omega arith; kinds = omega arith }
+short-two w (suc zero) h s = let p = s .cost in let q = s .kinds in record { cost = omega arith; kinds = omega arith }
+short-two w (suc (suc zero)) h s = s
+short-two w (suc (suc (suc x))) h s = absurd (omega arith)
+
+pub short-past : (w : Way) (e : Edge) (x : ℕ) → x < maxEdges → Short x w → {v : Way} → v ≡ pastEdge w e → v .cost ≤ w .cost + 255 → Short (x + 1) v
+unfolding pastEdge
+short-past w e x h s {v} q l =
+    record {
+      cost = let p = s .cost in omega arith;
+      kinds = omega (arith, ap (λ (u : Way). u .kinds) q, bit-small (e .core), double x h, s .kinds);
+    }
+  where
+    double : (x : ℕ) → x < maxEdges → 2 ^ (x + 1) ≡ 2 * 2 ^ x
+    double zero h = refl
+    double (suc zero) h = refl
+    double (suc (suc zero)) h = refl
+    double (suc (suc (suc x))) h = absurd (omega arith)
 
 -- ---- an edge that is looked up
 
 module _ (b : List ℕ) (id : SolutionEdge) (ids : List SolutionEdge) (found : Found) (e : foundEdges found ≡ identifiedIn b id) where
-  with-edge : (x : Edge) → found ≡ FoundEdge x → ahead (withIdentities b ids) x ≡ withIdentities b (id ∷ ids)
+  with-edge : (x : Edge) → found ≡ FoundEdge x → withIdentities b (id ∷ ids) ≡ ahead (withIdentities b ids) x
   unfolding withIdentities flatMap foundEdges
-  with-edge x q =
-      sym (ap (flatMap (ahead (withIdentities b ids))) (sym e ∙ ap foundEdges q) ∙ append-nil (ahead (withIdentities b ids) x))
+  with-edge x q = ap (flatMap (ahead (withIdentities b ids))) (sym e ∙ ap foundEdges q) ∙ append-nil (ahead (withIdentities b ids) x)
 
-  with-nothing : found ≡ Nothing → [] ≡ withIdentities b (id ∷ ids)
+  with-nothing : found ≡ Nothing → withIdentities b (id ∷ ids) ≡ []
   unfolding withIdentities flatMap foundEdges
-  with-nothing q = sym (ap (flatMap (ahead (withIdentities b ids))) (sym e ∙ ap foundEdges q))
+  with-nothing q = ap (flatMap (ahead (withIdentities b ids))) (sym e ∙ ap foundEdges q)
 
-module _ (src dst : IsdAsn) (b r : List ℕ) (k : ℕ) (ids : List SolutionEdge) (id : SolutionEdge) (i : id ≡ recordEdge r k) (found : Found) (e : foundEdges found ≡ identifiedIn b id) where
-  abbrev of : SolutionEdge → List (List Edge)
-  of x = withIdentities b (x ∷ ids)
+or-false : (t : Bool) → (t || false) ≡ t
+or-false true = refl
+or-false false = refl
 
-  here : (x : Edge) → found ≡ FoundEdge x → ahead (withIdentities b ids) x ≡ of (recordEdge r k)
-  here x q = with-edge b id ids found e x q ∙ ap of i
+-- the edge goes on, and one of the lists after it does
+any-ahead : (dst : IsdAsn) (r : List ℕ) (n : ℕ) (w : Way) (e : Edge) (cs : List (List Edge))
+    → any (completes dst r n w) (ahead cs e) ≡ (goesOn dst w e && any (completes dst r n (pastEdge w e)) cs)
+unfolding any ahead completes
+any-ahead dst r n w e [] = none (goesOn dst w e)
+  where
+    none : (t : Bool) → false ≡ (t && false)
+    none true = refl
+    none false = refl
+any-ahead dst r n w e (c ∷ cs) =
+    ap (λ t. (goesOn dst w e && completes dst r n (pastEdge w e) c) || t) (any-ahead dst r n w e cs)
+    ∙ both (goesOn dst w e) (completes dst r n (pastEdge w e) c) (any (completes dst r n (pastEdge w e)) cs)
+  where
+    both : (t x y : Bool) → ((t && x) || (t && y)) ≡ (t && (x || y))
+    both true x y = refl
+    both false x y = refl
 
-  gone : found ≡ Nothing → [] ≡ of (recordEdge r k)
-  gone q = with-nothing b id ids found e q ∙ ap of i
+module _ (b : List ℕ) (dst : IsdAsn) (r : List ℕ) (n : ℕ) (w : Way) (x : ℕ) where
+  -- all edges are passed
+  pub all-passed : n ≤ x → completed b dst r n w x ≡ hasArrived dst r n w
+  unfolding completed any withIdentities completes range
+  all-passed h =
+      let z : n - x ≡ 0 = omega arith in
+      ap (λ k. any (completes dst r n w) (withIdentities b (map (recordEdge r) (range x k)))) z ∙ or-false (hasArrived dst r n w)
 
-  -- as the first edge
-  pub first-found : (x : Edge) → found ≡ FoundEdge x → passing src dst r (ahead (withIdentities b ids) x) ≡ passing src dst r (of (recordEdge r k))
-  first-found x q = ap (passing src dst r) (here x q)
+  abbrev later : List SolutionEdge
+  later = map (recordEdge r) (range (x + 1) (n - (x + 1)))
 
-  pub first-gone : found ≡ Nothing → [] ≡ passing src dst r (of (recordEdge r k))
-  unfolding passing filter
-  first-gone q = ap (passing src dst r) (gone q)
+  module _ (h : x < n) {id : SolutionEdge} (i : id ≡ recordEdge r x) (found : Found) (e : foundEdges found ≡ identifiedIn b id) where
+    turn : completed b dst r n w x ≡ any (completes dst r n w) (withIdentities b (id ∷ later))
+    unfolding completed
+    turn =
+        ap (λ l. any (completes dst r n w) (withIdentities b (map (recordEdge r) l))) (range-turn x n h)
+        ∙ ap (λ d. any (completes dst r n w) (withIdentities b (d ∷ later))) (sym i)
 
-  -- as the second
-  pub second-found : (y x : Edge) → found ≡ FoundEdge x
-      → passing src dst r (ahead (ahead (withIdentities b ids) x) y) ≡ passing src dst r (ahead (of (recordEdge r k)) y)
-  second-found y x q = ap (λ l. passing src dst r (ahead l y)) (here x q)
+    pub edge-gone : found ≡ Nothing → completed b dst r n w x ≡ false
+    unfolding any
+    edge-gone q = turn ∙ ap (any (completes dst r n w)) (with-nothing b id later found e q)
 
-  pub second-gone : (y : Edge) → found ≡ Nothing → [] ≡ passing src dst r (ahead (of (recordEdge r k)) y)
-  unfolding passing filter ahead
-  second-gone y q = ap (λ l. passing src dst r (ahead l y)) (gone q)
+    module _ {y : Edge} (q : found ≡ FoundEdge y) {t : Bool} (o : t ≡ goesOn dst w y) where
+      edge-next : completed b dst r n w x ≡ (t && completed b dst r n (pastEdge w y) (x + 1))
+      unfolding completed
+      edge-next =
+          turn
+          ∙ ap (any (completes dst r n w)) (with-edge b id later found e y q)
+          ∙ any-ahead dst r n w y (withIdentities b later)
+          ∙ ap (λ t. t && completed b dst r n (pastEdge w y) (x + 1)) (sym o)
 
-  -- as the third
-  pub third-gone : (z y : Edge) → found ≡ Nothing → [] ≡ passing src dst r (ahead (ahead (of (recordEdge r k)) y) z)
-  unfolding passing filter ahead
-  third-gone z y q = ap (λ l. passing src dst r (ahead (ahead l y) z)) (gone q)
+      pub edge-astray : t ≡ false → completed b dst r n w x ≡ false
+      edge-astray p = edge-next ∙ ap (λ t. t && completed b dst r n (pastEdge w y) (x + 1)) p
 
--- as the last of one, of two and of three
-module _ (src dst : IsdAsn) (b r : List ℕ) (k : ℕ) (id : SolutionEdge) (i : id ≡ recordEdge r k) (found : Found) (e : foundEdges found ≡ identifiedIn b id) (x : Edge) (q : found ≡ FoundEdge x) where
-  pub one-found : passing src dst r ((x ∷ []) ∷ []) ≡ passing src dst r (withIdentities b (recordEdge r k ∷ []))
-  unfolding ahead withIdentities
-  one-found = ap (passing src dst r) (here src dst b r k [] id i found e x q)
-
-  pub two-found : (y : Edge) → passing src dst r ((y ∷ x ∷ []) ∷ []) ≡ passing src dst r (ahead (withIdentities b (recordEdge r k ∷ [])) y)
-  unfolding ahead withIdentities
-  two-found y = ap (λ l. passing src dst r (ahead l y)) (here src dst b r k [] id i found e x q)
-
-  pub three-found : (z y : Edge)
-      → passing src dst r ((z ∷ y ∷ x ∷ []) ∷ []) ≡ passing src dst r (ahead (ahead (withIdentities b (recordEdge r k ∷ [])) y) z)
-  unfolding ahead withIdentities
-  three-found z y = ap (λ l. passing src dst r (ahead (ahead l y) z)) (here src dst b r k [] id i found e x q)
-
--- ---- by the count
-
-not-allowed : (c : List Edge) → (length c ≡ 1 → ⊥) → (length c ≡ 2 → ⊥) → (length c ≡ 3 → ⊥) → allowedKinds c ≡ false
-unfolding allowedKinds
-not-allowed [] n₁ n₂ n₃ = refl
-not-allowed (e ∷ []) n₁ n₂ n₃ = absurd (n₁ refl)
-not-allowed (e ∷ f ∷ []) n₁ n₂ n₃ = absurd (n₂ refl)
-not-allowed (e ∷ f ∷ g ∷ []) n₁ n₂ n₃ = absurd (n₃ refl)
-not-allowed (e ∷ f ∷ g ∷ h ∷ c) n₁ n₂ n₃ = refl
-
-module _ (b : List ℕ) (src dst : IsdAsn) (r : List ℕ) (t : Bool) (p : t ≡ sameAs src dst) where
-  by-same : (s : Bool) → t ≡ s → recordedChains b src dst r ≡ (if s then [] else passing src dst r (withIdentities b (edgesIn r)))
-  unfolding chainsNamed
-  by-same s q = sym (named-recorded b src dst r) ∙ ap (λ u. if u then [] else passing src dst r (withIdentities b (edgesIn r))) (sym p ∙ q)
-
-  pub same-ends : t ≡ true → [] ≡ recordedChains b src dst r
-  same-ends q = sym (by-same true q)
-
-  module _ (q : t ≡ false) (n : ℕ) (m : n ≡ getD r 2 0) where
-    edges-of : (k : ℕ) → n ≡ k → edgesIn r ≡ map (recordEdge r) (range 0 k)
-    unfolding edgesIn solutionIn
-    edges-of k e = ap (λ i. map (recordEdge r) (range 0 i)) (sym m ∙ e)
-
-    by-count : (k : ℕ) → n ≡ k → passing src dst r (withIdentities b (map (recordEdge r) (range 0 k))) ≡ recordedChains b src dst r
-    by-count k e = sym (by-same false q ∙ ap (λ ids. passing src dst r (withIdentities b ids)) (edges-of k e))
-
-    pub count-one : n ≡ 1 → passing src dst r (withIdentities b (recordEdge r 0 ∷ [])) ≡ recordedChains b src dst r
-    count-one e = unfold range in by-count 1 e
-
-    pub count-two : n ≡ 2 → passing src dst r (withIdentities b (recordEdge r 0 ∷ recordEdge r 1 ∷ [])) ≡ recordedChains b src dst r
-    count-two e = unfold range in by-count 2 e
-
-    pub count-three : n ≡ 3 → passing src dst r (withIdentities b (recordEdge r 0 ∷ recordEdge r 1 ∷ recordEdge r 2 ∷ [])) ≡ recordedChains b src dst r
-    count-three e = unfold range in by-count 3 e
-
-    pub count-other : (n ≡ 1 → ⊥) → (n ≡ 2 → ⊥) → (n ≡ 3 → ⊥) → [] ≡ recordedChains b src dst r
-    unfolding passing isWay filter
-    count-other n₁ n₂ n₃ =
-        sym (ap (filter (isRecordOf r)) (filter-same (isWay src dst) false (withIdentities b ids) none)) ∙ by-count n refl
-      where
-        ids : List SolutionEdge
-        ids = map (recordEdge r) (range 0 n)
-
-        size : (c : List Edge) → Mem c (withIdentities b ids) → length c ≡ n
-        size c k = with-sound b ids c k .size ∙ length-map (range 0 n) (recordEdge r) ∙ length-range 0 n
-
-        none : (c : List Edge) → Mem c (withIdentities b ids) → isWay src dst c ≡ false
-        none c k =
-            let l : length c ≡ n = size c k in
-            ap (λ u. u && leadsBy (AS dst) (AS src) c) (not-allowed c (λ z. n₁ (sym l ∙ z)) (λ z. n₂ (sym l ∙ z)) (λ z. n₃ (sym l ∙ z)))
+      pub edge-passed : t ≡ true → {v : Way} → v ≡ pastEdge w y → completed b dst r n w x ≡ completed b dst r n v (x + 1)
+      edge-passed p s =
+          edge-next ∙ ap (λ t. t && completed b dst r n (pastEdge w y) (x + 1)) p ∙ ap (λ v. completed b dst r n v (x + 1)) (sym s)
 
 -- ---- with the verdict
 
-module _ (b : List ℕ) (v : Verdict) (p : v ≡ verdict b) where
-  pub refused-said : (src dst : IsdAsn) (r : List ℕ) (x : Refusal) → v ≡ RefusedBook x → _≡_ {A = Recorded} (RefusedBook x, []) (recorded b src dst r)
-  refused-said src dst r x q = sym (recorded-refused b src dst r x (sym p ∙ q))
+module _ (b : List ℕ) (v : Verdict) (p : v ≡ verdict b) (src dst : IsdAsn) (r : List ℕ) where
+  by-verdict : recordedOn v (recordedChains b src dst r) ≡ recorded b src dst r
+  unfolding recorded
+  by-verdict = ap (λ u. recordedOn u (recordedChains b src dst r)) p
 
-  pub accepted-said : (src dst : IsdAsn) (r : List ℕ) (s : Recorded) → v ≡ Accepted → s ≡ (Accepted, recordedChains b src dst r) → s ≡ recorded b src dst r
-  accepted-said src dst r s q e = e ∙ sym (recorded-accepted b src dst r (sym p ∙ q))
+  pub refused-said : (x : Refusal) → v ≡ RefusedBook x → Refused x ≡ recorded b src dst r
+  refused-said x q = sym (ap (λ u. recordedOn u (recordedChains b src dst r)) q) ∙ by-verdict
+
+  pub accepted-said : {s : Chain} → v ≡ Accepted → s ≡ chainIn (recordedChains b src dst r) → s ≡ recorded b src dst r
+  accepted-said q e = e ∙ sym (ap (λ u. recordedOn u (recordedChains b src dst r)) q) ∙ by-verdict

@@ -1,8 +1,9 @@
--- What `chain` answers, and what assembly then is.
+-- What `chain_of` answers, and what assembly then is.
 -- Assumes nothing.
 use Prim.Native.Nat.{ℕ, _≤_}
 use native.Mathlib.Omega.{arith}
 use mathlib.Core.Path.{_≡_, refl, sym, ap, _∙_, subst}
+use lib.ListN.{length}
 use mathlib.Core.List.{List, [], _∷_, List·Memᴰ as Mem, List·Memᴰ·head as head, List·Memᴰ·not-nil as not-nil}
 use Rattle.spec.specs.declared.IsdAsn.{IsdAsn}
 use Rattle.spec.specs.declared.Edge.{Edge}
@@ -17,35 +18,28 @@ use Rattle.spec.specs.Records.{solutionOctets}
 use Rattle.spec.specs.Answers.{assembly, pathAnswer, refusedPath}
 use Rattle.spec.proofs.AnswerLaws.{assembly-chain, assembly-stranger}
 use Rattle.graph.specs.declared.Chain.{Chain}
-use Rattle.graph.specs.declared.Chain.the-variants.{Refused, Stranger, One, Two, Three}
-use Rattle.graph.specs.Recorded.{recordedChains, Recorded, saidBy, recordedOn, recorded}
+use Rattle.graph.specs.declared.Chain.the-variants.{Refused, Stranger, Edges}
+use Rattle.graph.specs.Recorded.{recordedChains, recordedOn, recorded}
 use Rattle.graph.proofs.NamedLaws.{recorded-mem, mem-recorded}
 
 -- ---- what is said, by the verdict
 
-pub recorded-accepted : (b : List ℕ) (src dst : IsdAsn) (r : List ℕ) → verdict b ≡ Accepted → recorded b src dst r ≡ (Accepted, recordedChains b src dst r)
-unfolding recorded
-recorded-accepted b src dst r q = ap (λ v. recordedOn v (recordedChains b src dst r)) q
+on-refused : (v : Verdict) (found : List (List Edge)) (x : Refusal) → recordedOn v found ≡ Refused x → v ≡ RefusedBook x
+on-refused Accepted [] x q = let z : _≡_ {A = ℕ} 0 1 = cc in absurd (omega arith)
+on-refused Accepted (c ∷ cs) x q = let z : _≡_ {A = ℕ} 0 1 = cc in absurd (omega arith)
+on-refused (RefusedBook y) found x q = cc
 
-pub recorded-refused : (b : List ℕ) (src dst : IsdAsn) (r : List ℕ) (x : Refusal) → verdict b ≡ RefusedBook x → recorded b src dst r ≡ (RefusedBook x, [])
-unfolding recorded
-recorded-refused b src dst r x q = ap (λ v. recordedOn v (recordedChains b src dst r)) q
+on-stranger : (v : Verdict) (found : List (List Edge)) → recordedOn v found ≡ Stranger → (v ≡ Accepted) × (found ≡ [])
+on-stranger Accepted [] q = (refl, refl)
+on-stranger Accepted (c ∷ cs) q = let z : _≡_ {A = ℕ} 0 1 = cc in absurd (omega arith)
+on-stranger (RefusedBook y) found q = let z : _≡_ {A = ℕ} 0 1 = cc in absurd (omega arith)
 
-on-accepted : (v : Verdict) (cs found : List (List Edge)) → _≡_ {A = Recorded} (Accepted, cs) (recordedOn v found) → (v ≡ Accepted) × (found ≡ cs)
-on-accepted Accepted cs found q = (refl, sym (ap (λ (x : Recorded). x .1) q))
-on-accepted (RefusedBook x) cs found q =
-    let e : Accepted ≡ RefusedBook x = ap (λ (x : Recorded). x .0) q in
-    let z : _≡_ {A = ℕ} 0 1 = cc in
-    absurd (omega arith)
+on-edges : (v : Verdict) (found : List (List Edge)) (n : ℕ) → recordedOn v found ≡ Edges n → (c : List Edge) × (v ≡ Accepted) × Mem c found × (length c ≡ n)
+on-edges Accepted [] n q = let z : _≡_ {A = ℕ} 0 1 = cc in absurd (omega arith)
+on-edges Accepted (c ∷ cs) n q = (c, refl, head refl, cc)
+on-edges (RefusedBook y) found n q = let z : _≡_ {A = ℕ} 0 1 = cc in absurd (omega arith)
 
-on-refused : (v : Verdict) (x : Refusal) (found : List (List Edge)) → _≡_ {A = Recorded} (RefusedBook x, []) (recordedOn v found) → v ≡ RefusedBook x
-on-refused Accepted x found q =
-    let e : RefusedBook x ≡ Accepted = ap (λ (x : Recorded). x .0) q in
-    let z : _≡_ {A = ℕ} 0 1 = cc in
-    absurd (omega arith)
-on-refused (RefusedBook y) x found q = sym (ap (λ (x : Recorded). x .0) q)
-
--- ---- for those who call `chain`
+-- ---- for those who call `chain_of`
 
 module _ (b : List ℕ) (src dst : IsdAsn) (given : List ℕ) where
   -- no chain has the record
@@ -61,37 +55,32 @@ module _ (b : List ℕ) (src dst : IsdAsn) (given : List ℕ) where
     pub its : given ≡ solutionOctets c
     pub answer : (bytes : ℕ) → pathSize ≤ bytes → assembly b src dst given bytes ≡ pathAnswer b bytes c
 
-module _ (b : List ℕ) (src dst : IsdAsn) (given : List ℕ) (r : Chain) (said : saidBy r ≡ recorded b src dst given) where
+module _ (b : List ℕ) (src dst : IsdAsn) (given : List ℕ) (r : Chain) (said : r ≡ recorded b src dst given) where
+  by-verdict : recordedOn (verdict b) (recordedChains b src dst given) ≡ r
+  unfolding recorded
+  by-verdict = sym said
+
   -- a refused book
   pub said-refused : (x : Refusal) → r ≡ Refused x → verdict b ≡ RefusedBook x
-  unfolding recorded
-  said-refused x q = on-refused (verdict b) x (recordedChains b src dst given) (sym (ap saidBy q) ∙ said)
+  said-refused x q = on-refused (verdict b) (recordedChains b src dst given) x (by-verdict ∙ q)
 
   pub said-stranger : r ≡ Stranger → OfNone b src dst given
-  unfolding recorded
   said-stranger q =
-      let h = on-accepted (verdict b) [] (recordedChains b src dst given) (sym (ap saidBy q) ∙ said) in
+      let h = on-stranger (verdict b) (recordedChains b src dst given) (by-verdict ∙ q) in
       let n : (c : List Edge) → IsChain b src dst c → given ≡ solutionOctets c → ⊥ =
       λ c p e. not-nil (subst (Mem c) (h .1) (mem-recorded b src dst given c p e)) in
       record { ok = h .0; none = n; answer = λ bytes room. assembly-stranger b src dst bytes (h .0) room given n }
 
-  said-chain : (c : List Edge) → saidBy r ≡ (Accepted, c ∷ []) → OfChain b src dst given c
-  unfolding recorded
-  said-chain c q =
-      let h = on-accepted (verdict b) (c ∷ []) (recordedChains b src dst given) (sym q ∙ said) in
-      let m = recorded-mem b src dst given (subst (Mem c) (sym (h .1)) (head refl)) in
-      record {
-        ok = h .0;
-        chain = m .0;
-        its = m .1;
-        answer = λ bytes room. ap (λ g. assembly b src dst g bytes) (m .1) ∙ assembly-chain b src dst bytes (h .0) room c (m .0);
-      }
-
-  pub said-one : (e : Edge) → r ≡ One e → OfChain b src dst given (e ∷ [])
-  said-one e q = said-chain (e ∷ []) (ap saidBy q)
-
-  pub said-two : (e f : Edge) → r ≡ Two e f → OfChain b src dst given (e ∷ f ∷ [])
-  said-two e f q = said-chain (e ∷ f ∷ []) (ap saidBy q)
-
-  pub said-three : (e f g : Edge) → r ≡ Three e f g → OfChain b src dst given (e ∷ f ∷ g ∷ [])
-  said-three e f g q = said-chain (e ∷ f ∷ g ∷ []) (ap saidBy q)
+  pub said-edges : (n : ℕ) → r ≡ Edges n → (c : List Edge) × OfChain b src dst given c × (length c ≡ n)
+  said-edges n q =
+      let h = on-edges (verdict b) (recordedChains b src dst given) n (by-verdict ∙ q) in
+      let m = recorded-mem b src dst given (h .2) in (
+        h .0,
+        record {
+          ok = h .1;
+          chain = m .0;
+          its = m .1;
+          answer = λ bytes room. ap (λ g. assembly b src dst g bytes) (m .1) ∙ assembly-chain b src dst bytes (h .1) room (h .0) (m .0);
+        },
+        h .3,
+      )

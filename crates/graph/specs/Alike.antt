@@ -4,6 +4,12 @@ use Prim.Native.Nat.{ℕ, _+_, _*_}
 use mathlib.Core.List.{List}
 use lib.ListN.{getD}
 use Rattle.spec.specs.Limits.{maxEntries}
+use Rattle.spec.specs.Octets.{be64}
+use Rattle.spec.specs.Book.{headOffset}
+
+-- timestamp, id and entry count of the segment at k: the first eight bytes of its head
+unfoldable pub headWordAt : List ℕ → ℕ → ℕ
+headWordAt b k = be64 b (headOffset k)
 
 -- the last byte of the MAC of the first entry of the segment at k, by the table of offsets
 unfoldable pub macByteAt : List ℕ → List ℕ → ℕ → ℕ

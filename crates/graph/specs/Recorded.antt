@@ -3,6 +3,7 @@
 use Prim.Native.Nat.{ℕ}
 use mathlib.Core.Bool.{Bool}
 use mathlib.Core.List.{List, [], _∷_}
+use lib.ListN.{length}
 use Rattle.spec.specs.declared.IsdAsn.{IsdAsn}
 use Rattle.spec.specs.declared.Edge.{Edge}
 use Rattle.spec.specs.declared.Verdict.{Verdict}
@@ -12,7 +13,7 @@ use Rattle.spec.specs.Book.{verdict}
 use Rattle.spec.specs.Chains.{chains}
 use Rattle.spec.specs.Records.{solutionOctets}
 use Rattle.graph.specs.declared.Chain.{Chain}
-use Rattle.graph.specs.declared.Chain.the-variants.{Refused, Stranger, One, Two, Three}
+use Rattle.graph.specs.declared.Chain.the-variants.{Refused, Stranger, Edges}
 
 -- the record is that of a chain
 unfoldable pub isRecordOf : List ℕ → List Edge → Bool
@@ -22,29 +23,16 @@ isRecordOf r c = sameList r (solutionOctets c)
 unfoldable pub recordedChains : List ℕ → IsdAsn → IsdAsn → List ℕ → List (List Edge)
 recordedChains b src dst r = filter (isRecordOf r) (chains b src dst)
 
--- ---- the answer of `chain`
+-- ---- the answer of `chain_of`
 
-abbrev pub chainEdges : Chain → List Edge
-chainEdges (Refused r) = []
-chainEdges Stranger = []
-chainEdges (One e) = e ∷ []
-chainEdges (Two e f) = e ∷ f ∷ []
-chainEdges (Three e f g) = e ∷ f ∷ g ∷ []
+-- how many edges the chain has, if there is one
+abbrev pub chainIn : List (List Edge) → Chain
+chainIn [] = Stranger
+chainIn (c ∷ cs) = Edges (length c)
 
--- what is said of the book, and the chains
-abbrev pub Recorded : Type 0
-Recorded = Verdict × List (List Edge)
+abbrev pub recordedOn : Verdict → List (List Edge) → Chain
+recordedOn Accepted found = chainIn found
+recordedOn (RefusedBook r) found = Refused r
 
-abbrev pub saidBy : Chain → Recorded
-saidBy (Refused r) = (RefusedBook r, [])
-saidBy Stranger = (Accepted, [])
-saidBy (One e) = (Accepted, (e ∷ []) ∷ [])
-saidBy (Two e f) = (Accepted, (e ∷ f ∷ []) ∷ [])
-saidBy (Three e f g) = (Accepted, (e ∷ f ∷ g ∷ []) ∷ [])
-
-abbrev pub recordedOn : Verdict → List (List Edge) → Recorded
-recordedOn Accepted found = (Accepted, found)
-recordedOn (RefusedBook r) found = (RefusedBook r, [])
-
-unfoldable pub recorded : List ℕ → IsdAsn → IsdAsn → List ℕ → Recorded
+unfoldable pub recorded : List ℕ → IsdAsn → IsdAsn → List ℕ → Chain
 recorded b src dst r = recordedOn (verdict b) (recordedChains b src dst r)

@@ -1,30 +1,28 @@
-// The first of equal segments, by the table of entry offsets: few segments have the id and a byte of the first MAC of
-// another, so that few are compared.
+// The first of equal segments, by the table of entry offsets: few segments have the timestamp, id and entry count of
+// another and a byte of its first MAC, so that few are compared.
 ghost use mathlib.Core.Path.{_≡_};
 ghost use Prim.Native.Nat.{ℕ, _+_, _-_, _≤_, _<_};
 ghost use lib.ListN.{length};
 ghost use Rattle.spec.specs.declared.Verdict.the-variants.{Accepted};
 ghost use Rattle.spec.specs.Limits.{entrySize};
-ghost use Rattle.spec.specs.Book.{idAt, segments, segmentAt, segmentCount, verdict};
+ghost use Rattle.spec.specs.Book.{segments, segmentAt, segmentCount, verdict};
 ghost use Rattle.spec.specs.Edges.{isFirst};
 ghost use Rattle.graph.specs.Leaving.{entryCount};
 ghost use Rattle.graph.specs.Ready.{Ready};
-ghost use Rattle.graph.specs.Alike.{macByteAt};
+ghost use Rattle.graph.specs.Alike.{headWordAt, macByteAt};
 use crate::edges;
 use crate::edges::PLACES;
 use spec::Head;
 use spec::Limits;
 use spec::Sizes;
 
-// Where the id stands in a head, past the heads before it.
-const ID: usize = Sizes::SIZE + 4;
-
-fn id_of(book: &[u8], k: usize) -> u16
+// Timestamp, id and entry count of a segment, as they stand in its head: one number.
+fn head_word(book: &[u8], k: usize) -> u64
     requires { ⌜ verdict (now book) ≡ Accepted ⌝ }
     requires { ⌜ k < segmentCount (now book) ⌝ }
-    ensures { λ r. ⌜ r ≡ idAt (now (book .entry)) k ⌝ }
+    ensures { λ r. ⌜ r ≡ headWordAt (now (book .entry)) k ⌝ }
 {
-    edges::pair_within(book, ID + Head::SIZE * k)
+    edges::word_within(book, Sizes::SIZE + Head::SIZE * k)
 }
 
 // The last byte of the MAC of a body's first entry, past the entry's start.
@@ -40,11 +38,11 @@ fn mac_byte(book: &[u8], table: &[u16; PLACES], k: usize) -> u8
     book[edges::wide(table[Limits::ENTRIES * k]) + MAC]
 }
 
-// From a position on, the first below `end` that has the id and the byte, or `end`.
+// From a position on, the first below `end` that has the number and the byte, or `end`.
 fn next_alike(
     book: &[u8],
     table: &[u16; PLACES],
-    id: u16,
+    word: u64,
     mac: u8,
     from: usize,
     end: usize,
@@ -52,11 +50,11 @@ fn next_alike(
     requires { ⌜ Ready (now book) (now table) ⌝ }
     requires { ⌜ end < segmentCount (now book) ⌝ }
     requires { ⌜ entrySize ≤ length (now book) ⌝ }
-    ensures { λ r. ⌜ (from ≤ r) × (r ≤ from + (end - from)) × ((i : ℕ) → from ≤ i → i < r → idAt (now (book .entry)) i ≡ id → macByteAt (now (book .entry)) (now (table .entry)) i ≡ mac → ⊥) ⌝ }
+    ensures { λ r. ⌜ (from ≤ r) × (r ≤ from + (end - from)) × ((i : ℕ) → from ≤ i → i < r → headWordAt (now (book .entry)) i ≡ word → macByteAt (now (book .entry)) (now (table .entry)) i ≡ mac → ⊥) ⌝ }
 {
     let mut j = from;
     while j < end {
-        if id_of(book, j) == id {
+        if head_word(book, j) == word {
             if mac_byte(book, table, j) == mac {
                 return j;
             }
@@ -74,14 +72,14 @@ pub(crate) fn is_first(book: &[u8], table: &[u16; PLACES], k: u8) -> bool
     ensures { λ r. ⌜ r ≡ isFirst (segments (now (book .entry))) (segmentAt (now (book .entry)) k) ⌝ }
 {
     let end = k as usize;
-    let id = id_of(book, end);
+    let word = head_word(book, end);
     let mac = mac_byte(book, table, end);
-    let mut j = next_alike(book, table, id, mac, 0, end);
+    let mut j = next_alike(book, table, word, mac, 0, end);
     while j < end {
         if equal::same_segment(book, k, j as u8) {
             return false;
         }
-        j = next_alike(book, table, id, mac, j + 1, end);
+        j = next_alike(book, table, word, mac, j + 1, end);
     }
     true
 }

@@ -1,22 +1,17 @@
 // The chain that a solution record is of: the record names its edges, and each is looked up in the book.
 ghost use mathlib.Core.Path.{_≡_};
-ghost use mathlib.Core.Bool.{_&&_, not};
-ghost use mathlib.Core.List.{[], _∷_};
 ghost use Prim.Native.Nat.{_+_, _≤_};
 ghost use lib.ListN.{length};
-ghost use Rattle.spec.specs.declared.Verdict.the-variants.{Accepted};
-ghost use Rattle.spec.specs.Limits.{solutionSize};
+ghost use Rattle.spec.specs.Limits.{maxEdges, solutionSize};
 ghost use Rattle.spec.specs.Basics.{sameList};
-ghost use Rattle.spec.specs.Octets.{be64};
-ghost use Rattle.spec.specs.Edges.{sameVertex};
 ghost use Rattle.spec.specs.Records.{recordEdge};
 ghost use Rattle.book.specs.Offsets.{openTable};
 ghost use Rattle.graph.specs.Lookup.{foundEdges};
 ghost use Rattle.graph.specs.Identity.{identifiedIn};
 ghost use Rattle.graph.specs.Pushed.{recordOctets};
 ghost use Rattle.graph.specs.Ready.{Ready};
-ghost use Rattle.graph.specs.Recorded.{saidBy, recorded, recordedChains};
-ghost use Rattle.graph.specs.Named.{ahead, withIdentities, leadsBy, isWay, passing};
+ghost use Rattle.graph.specs.Recorded.{chainIn, recorded, recordedChains};
+ghost use Rattle.graph.specs.Named.{Short, begun, goesOn, pastEdge, kindsAllowed, ownEdge, ownSolution, hasArrived, completed};
 use crate::Chain;
 use crate::Found;
 use crate::alike;
@@ -52,36 +47,24 @@ fn named_edge(given: &[u8], k: u8) -> SolutionEdge
     }
 }
 
-// Eight bytes as a number.
-fn word(s: &[u8], at: usize) -> u64
-    requires { ⌜ at + 8 ≤ length (now s) ⌝ }
-    ensures { λ r. ⌜ r ≡ be64 (now (s .entry)) at ⌝ }
-{
-    let high = edges::half_within(s, at);
-    let low = edges::half_within(s, at + 4);
-    edges::wide64(high) * 4294967296 + edges::wide64(low)
-}
-
 // Two records are the same.
 fn same_words(a: &[u8], b: &[u8]) -> bool
     requires { ⌜ length (now a) ≡ solutionSize ⌝ }
     requires { ⌜ length (now b) ≡ solutionSize ⌝ }
     ensures { λ r. ⌜ r ≡ sameList (now (a .entry)) (now (b .entry)) ⌝ }
 {
-    if word(a, 0) != word(b, 0) {
+    if edges::word_within(a, 0) != edges::word_within(b, 0) {
         return false;
     }
-    word(a, 8) == word(b, 8)
+    edges::word_within(a, 8) == edges::word_within(b, 8)
 }
 
 // The record is that of a solution.
 fn same_record(given: &[u8], s: Solution) -> bool
+    requires { ⌜ length (now given) ≡ solutionSize ⌝ }
     ensures { λ r. ⌜ r ≡ sameList (now (given .entry)) (recordOctets s) ⌝ }
 {
     let own = slots::octets_of(s);
-    if given.len() != Solution::SIZE {
-        return false;
-    }
     same_words(given, &own)
 }
 
@@ -105,256 +88,152 @@ fn edge_of(book: &[u8], table: &[u16; PLACES], id: SolutionEdge) -> Found
 
 // ---- edges in a row
 
-// From a vertex to the goal.
-fn arrives(goal: Vertex, at: Vertex, e: Edge) -> bool
-    ensures { λ r. ⌜ r ≡ leadsBy goal at (e ∷ []) ⌝ }
+// Where a row of edges has come: the vertex, the sum of the weights, and the kinds, a binary digit for each
+// edge, 1 for core.
+struct Way {
+    at: Vertex,
+    cost: u16,
+    kinds: u8,
+}
+
+// An edge goes on from where the way has come, which is not the goal.
+fn goes_on(dst: IsdAsn, way: Way, e: Edge) -> bool
+    ensures { λ r. ⌜ r ≡ goesOn dst way e ⌝ }
 {
+    let at = way.at;
+    if edges::same_vertex(at, Vertex::AS(dst)) {
+        return false;
+    }
     let from = e.src;
-    if !edges::same_vertex(from, at) {
-        return false;
-    }
+    edges::same_vertex(from, at)
+}
+
+// The way one edge further.
+fn past(way: Way, e: Edge) -> Way
+    requires { ⌜ Short 2 way ⌝ }
+    ensures { λ r. ⌜ (r ≡ pastEdge way e) × (r .cost ≤ way .cost + 255) ⌝ }
+{
     let to = e.dst;
-    edges::same_vertex(to, goal)
+    Way {
+        at: to,
+        cost: way.cost + slots::weight(e),
+        kinds: way.kinds * 2 + slots::bit(e.core),
+    }
 }
 
-// From a vertex, and not to the goal.
-fn goes_on(goal: Vertex, at: Vertex, e: Edge) -> bool
-    ensures { λ r. ⌜ r ≡ (sameVertex (e .src) at && not (sameVertex (e .dst) goal)) ⌝ }
+// ---- at the end of the row
+
+// So many edges, three at most, may be of these kinds.
+fn kinds_allowed(count: u8, kinds: u8) -> bool
+    ensures { λ r. ⌜ r ≡ kindsAllowed count kinds ⌝ }
 {
-    let from = e.src;
-    if !edges::same_vertex(from, at) {
+    if count == 1 {
+        return true;
+    }
+    if count == 2 {
+        return kinds != 3;
+    }
+    kinds == 2
+}
+
+// Edge k of a record that names `count`.
+fn own_edge(given: &[u8], count: u8, k: u8) -> SolutionEdge
+    ensures { λ r. ⌜ r ≡ ownEdge (now (given .entry)) count k ⌝ }
+{
+    if k < count {
+        return named_edge(given, k);
+    }
+    slots::no_edge()
+}
+
+// What the record of the edges that are named says, if they have that cost.
+fn own_solution(given: &[u8], count: u8, cost: u16) -> Solution
+    requires { ⌜ count ≤ maxEdges ⌝ }
+    ensures { λ r. ⌜ r ≡ ownSolution (now (given .entry)) count cost ⌝ }
+{
+    Solution::new(
+        cost,
+        count,
+        [
+            own_edge(given, count, 0),
+            own_edge(given, count, 1),
+            own_edge(given, count, 2),
+        ],
+    )
+}
+
+// The way has come to the goal by edges of allowed kinds, and the record is theirs.
+fn arrives(dst: IsdAsn, given: &[u8], count: u8, way: Way) -> bool
+    requires { ⌜ length (now given) ≡ solutionSize ⌝ }
+    requires { ⌜ count ≤ maxEdges ⌝ }
+    ensures { λ r. ⌜ r ≡ hasArrived dst (now (given .entry)) count way ⌝ }
+{
+    let at = way.at;
+    if !edges::same_vertex(at, Vertex::AS(dst)) {
         return false;
     }
-    let to = e.dst;
-    !edges::same_vertex(to, goal)
-}
-
-fn two_arrive(goal: Vertex, at: Vertex, e: Edge, f: Edge) -> bool
-    ensures { λ r. ⌜ r ≡ leadsBy goal at (e ∷ f ∷ []) ⌝ }
-{
-    if !goes_on(goal, at, e) {
+    if !kinds_allowed(count, way.kinds) {
         return false;
     }
-    let to = e.dst;
-    arrives(goal, to, f)
-}
-
-fn three_arrive(goal: Vertex, at: Vertex, e: Edge, f: Edge, g: Edge) -> bool
-    ensures { λ r. ⌜ r ≡ leadsBy goal at (e ∷ f ∷ g ∷ []) ⌝ }
-{
-    if !goes_on(goal, at, e) {
-        return false;
-    }
-    let to = e.dst;
-    two_arrive(goal, to, f, g)
-}
-
-fn one_leads(src: IsdAsn, dst: IsdAsn, e: Edge) -> bool
-    ensures { λ r. ⌜ r ≡ isWay src dst (e ∷ []) ⌝ }
-{
-    arrives(Vertex::AS(dst), Vertex::AS(src), e)
-}
-
-// Not both are core.
-fn two_kinds(e: bool, f: bool) -> bool
-    ensures { λ r. ⌜ r ≡ not (e && f) ⌝ }
-{
-    if e {
-        return !f;
-    }
-    true
-}
-
-// The second alone is core.
-fn three_kinds(e: bool, f: bool, g: bool) -> bool
-    ensures { λ r. ⌜ r ≡ (not e && f && not g) ⌝ }
-{
-    if e {
-        return false;
-    }
-    if !f {
-        return false;
-    }
-    !g
-}
-
-fn two_lead(src: IsdAsn, dst: IsdAsn, e: Edge, f: Edge) -> bool
-    ensures { λ r. ⌜ r ≡ isWay src dst (e ∷ f ∷ []) ⌝ }
-{
-    if !two_kinds(e.core, f.core) {
-        return false;
-    }
-    two_arrive(Vertex::AS(dst), Vertex::AS(src), e, f)
-}
-
-fn three_lead(src: IsdAsn, dst: IsdAsn, e: Edge, f: Edge, g: Edge) -> bool
-    ensures { λ r. ⌜ r ≡ isWay src dst (e ∷ f ∷ g ∷ []) ⌝ }
-{
-    if !three_kinds(e.core, f.core, g.core) {
-        return false;
-    }
-    three_arrive(Vertex::AS(dst), Vertex::AS(src), e, f, g)
-}
-
-// ---- chains of one, two and three edges
-
-// An edge that was found, if it is a chain and the record is its.
-fn one_of(src: IsdAsn, dst: IsdAsn, given: &[u8], e: Edge) -> Chain
-    ensures { λ r. ⌜ saidBy r ≡ (Accepted, passing src dst (now (given .entry)) ((e ∷ []) ∷ [])) ⌝ }
-{
-    if !one_leads(src, dst, e) {
-        return Chain::Stranger;
-    }
-    if !same_record(given, slots::one(e)) {
-        return Chain::Stranger;
-    }
-    Chain::One(e)
-}
-
-// The edge that the record names.
-fn one(src: IsdAsn, dst: IsdAsn, book: &[u8], table: &[u16; PLACES], given: &[u8]) -> Chain
-    requires { ⌜ Ready (now book) (now table) ⌝ }
-    ensures { λ r. ⌜ saidBy r ≡ (Accepted, passing src dst (now (given .entry)) (withIdentities (now (book .entry)) (recordEdge (now (given .entry)) 0 ∷ []))) ⌝ }
-{
-    let id = named_edge(given, 0);
-    let found = edge_of(book, table, id);
-    match found {
-        Found::Edge(e) => one_of(src, dst, given, e),
-        Found::Nothing => Chain::Stranger,
-    }
-}
-
-fn two_of(src: IsdAsn, dst: IsdAsn, given: &[u8], e: Edge, f: Edge) -> Chain
-    ensures { λ r. ⌜ saidBy r ≡ (Accepted, passing src dst (now (given .entry)) ((e ∷ f ∷ []) ∷ [])) ⌝ }
-{
-    if !two_lead(src, dst, e, f) {
-        return Chain::Stranger;
-    }
-    if !same_record(given, slots::two(e, f)) {
-        return Chain::Stranger;
-    }
-    Chain::Two(e, f)
-}
-
-// An edge, and the second that the record names.
-fn two_after(
-    src: IsdAsn,
-    dst: IsdAsn,
-    book: &[u8],
-    table: &[u16; PLACES],
-    given: &[u8],
-    e: Edge,
-) -> Chain
-    requires { ⌜ Ready (now book) (now table) ⌝ }
-    ensures { λ r. ⌜ saidBy r ≡ (Accepted, passing src dst (now (given .entry)) (ahead (withIdentities (now (book .entry)) (recordEdge (now (given .entry)) 1 ∷ [])) e)) ⌝ }
-{
-    let id = named_edge(given, 1);
-    let found = edge_of(book, table, id);
-    match found {
-        Found::Edge(f) => two_of(src, dst, given, e, f),
-        Found::Nothing => Chain::Stranger,
-    }
-}
-
-fn two(src: IsdAsn, dst: IsdAsn, book: &[u8], table: &[u16; PLACES], given: &[u8]) -> Chain
-    requires { ⌜ Ready (now book) (now table) ⌝ }
-    ensures { λ r. ⌜ saidBy r ≡ (Accepted, passing src dst (now (given .entry)) (withIdentities (now (book .entry)) (recordEdge (now (given .entry)) 0 ∷ recordEdge (now (given .entry)) 1 ∷ []))) ⌝ }
-{
-    let id = named_edge(given, 0);
-    let found = edge_of(book, table, id);
-    match found {
-        Found::Edge(e) => two_after(src, dst, book, table, given, e),
-        Found::Nothing => Chain::Stranger,
-    }
-}
-
-fn three_of(src: IsdAsn, dst: IsdAsn, given: &[u8], e: Edge, f: Edge, g: Edge) -> Chain
-    ensures { λ r. ⌜ saidBy r ≡ (Accepted, passing src dst (now (given .entry)) ((e ∷ f ∷ g ∷ []) ∷ [])) ⌝ }
-{
-    if !three_lead(src, dst, e, f, g) {
-        return Chain::Stranger;
-    }
-    if !same_record(given, slots::three(e, f, g)) {
-        return Chain::Stranger;
-    }
-    Chain::Three(e, f, g)
-}
-
-// Two edges, and the third that the record names.
-fn three_last(
-    src: IsdAsn,
-    dst: IsdAsn,
-    book: &[u8],
-    table: &[u16; PLACES],
-    given: &[u8],
-    e: Edge,
-    f: Edge,
-) -> Chain
-    requires { ⌜ Ready (now book) (now table) ⌝ }
-    ensures { λ r. ⌜ saidBy r ≡ (Accepted, passing src dst (now (given .entry)) (ahead (ahead (withIdentities (now (book .entry)) (recordEdge (now (given .entry)) 2 ∷ [])) f) e)) ⌝ }
-{
-    let id = named_edge(given, 2);
-    let found = edge_of(book, table, id);
-    match found {
-        Found::Edge(g) => three_of(src, dst, given, e, f, g),
-        Found::Nothing => Chain::Stranger,
-    }
-}
-
-// An edge, and the second and third that the record names.
-fn three_after(
-    src: IsdAsn,
-    dst: IsdAsn,
-    book: &[u8],
-    table: &[u16; PLACES],
-    given: &[u8],
-    e: Edge,
-) -> Chain
-    requires { ⌜ Ready (now book) (now table) ⌝ }
-    ensures { λ r. ⌜ saidBy r ≡ (Accepted, passing src dst (now (given .entry)) (ahead (withIdentities (now (book .entry)) (recordEdge (now (given .entry)) 1 ∷ recordEdge (now (given .entry)) 2 ∷ [])) e)) ⌝ }
-{
-    let id = named_edge(given, 1);
-    let found = edge_of(book, table, id);
-    match found {
-        Found::Edge(f) => three_last(src, dst, book, table, given, e, f),
-        Found::Nothing => Chain::Stranger,
-    }
-}
-
-fn three(src: IsdAsn, dst: IsdAsn, book: &[u8], table: &[u16; PLACES], given: &[u8]) -> Chain
-    requires { ⌜ Ready (now book) (now table) ⌝ }
-    ensures { λ r. ⌜ saidBy r ≡ (Accepted, passing src dst (now (given .entry)) (withIdentities (now (book .entry)) (recordEdge (now (given .entry)) 0 ∷ recordEdge (now (given .entry)) 1 ∷ recordEdge (now (given .entry)) 2 ∷ []))) ⌝ }
-{
-    let id = named_edge(given, 0);
-    let found = edge_of(book, table, id);
-    match found {
-        Found::Edge(e) => three_after(src, dst, book, table, given, e),
-        Found::Nothing => Chain::Stranger,
-    }
+    same_record(given, own_solution(given, count, way.cost))
 }
 
 // ---- all
 
-// Where the edge count stands in a record.
+// The first `count` edges that the record names are a chain, and the record is its.
+fn is_chain(
+    src: IsdAsn,
+    dst: IsdAsn,
+    book: &[u8],
+    table: &[u16; PLACES],
+    given: &[u8],
+    count: u8,
+) -> bool
+    requires { ⌜ Ready (now book) (now table) ⌝ }
+    requires { ⌜ length (now given) ≡ solutionSize ⌝ }
+    requires { ⌜ count ≤ maxEdges ⌝ }
+    ensures { λ r. ⌜ r ≡ completed (now (book .entry)) dst (now (given .entry)) count (begun src) 0 ⌝ }
+{
+    let mut way = Way {
+        at: Vertex::AS(src),
+        cost: 0,
+        kinds: 0,
+    };
+    let mut x: u8 = 0;
+    while x < count {
+        let id = named_edge(given, x);
+        let found = edge_of(book, table, id);
+        let Found::Edge(e) = found else {
+            return false;
+        };
+        if !goes_on(dst, way, e) {
+            return false;
+        }
+        way = past(way, e);
+        x += 1;
+    }
+    arrives(dst, given, count, way)
+}
+
+// Where the edge count stands in a record, and the most that it can be.
 const COUNT: usize = 2;
 
-// The chain of a record in an accepted book.
+const MOST: u8 = 3;
+
+// The chain of a record in an accepted book. Its length is tested first: the compiler then knows it at every read.
 fn chain_in(src: IsdAsn, dst: IsdAsn, book: &[u8], table: &[u16; PLACES], given: &[u8]) -> Chain
     requires { ⌜ Ready (now book) (now table) ⌝ }
-    ensures { λ r. ⌜ saidBy r ≡ (Accepted, recordedChains (now (book .entry)) src dst (now (given .entry))) ⌝ }
+    ensures { λ r. ⌜ r ≡ chainIn (recordedChains (now (book .entry)) src dst (now (given .entry))) ⌝ }
 {
-    if edges::same_as(src, dst) {
+    if given.len() != Solution::SIZE {
         return Chain::Stranger;
     }
     let count = octets::byte(given, COUNT);
-    if count == 1 {
-        return one(src, dst, book, table, given);
+    if MOST < count {
+        return Chain::Stranger;
     }
-    if count == 2 {
-        return two(src, dst, book, table, given);
-    }
-    if count == 3 {
-        return three(src, dst, book, table, given);
+    if is_chain(src, dst, book, table, given, count) {
+        return Chain::Edges(count);
     }
     Chain::Stranger
 }
@@ -368,7 +247,7 @@ pub fn chain_of(
     given: &[u8],
     table: &mut [u16; PLACES],
 ) -> Chain
-    ensures { λ r. ⌜ (saidBy r ≡ recorded (now (book .entry)) src dst (now (given .entry))) × (now (table .exit) ≡ openTable (now (book .entry))) ⌝ }
+    ensures { λ r. ⌜ (r ≡ recorded (now (book .entry)) src dst (now (given .entry))) × (now (table .exit) ≡ openTable (now (book .entry))) ⌝ }
 {
     let v = book::open(book, table);
     if let Verdict::Refused(r) = v {

@@ -9,7 +9,7 @@ ghost use Rattle.spec.specs.declared.Vertex.{Vertex};
 ghost use Rattle.spec.specs.declared.Vertex.the-variants.{AS};
 ghost use Rattle.spec.specs.declared.Verdict.the-variants.{Accepted};
 ghost use Rattle.spec.specs.Limits.{maxSegments, maxEntries, entrySize, peerSize};
-ghost use Rattle.spec.specs.Octets.{be16, be32};
+ghost use Rattle.spec.specs.Octets.{be16, be32, be64};
 ghost use Rattle.spec.specs.Book.{segmentAt, segmentCount, verdict, isdAsnAt, peerCount, peerEntryAt, peerOffset};
 ghost use Rattle.spec.specs.Edges.{sameAs, sameVertex, asOf, leafAs, inConstruction};
 ghost use Rattle.graph.specs.Lookup.{between, leavingOf, foundEdges};
@@ -119,7 +119,7 @@ fn wide32(x: u8) -> u32
     x as u32
 }
 
-pub(crate) fn wide64(x: u32) -> u64
+fn wide64(x: u32) -> u64
     ensures { λ r. ⌜ (r ≡ x) × (r < 2 ^ 32) ⌝ }
 {
     x as u64
@@ -133,7 +133,7 @@ pub(crate) fn pair_within(book: &[u8], at: usize) -> u16
 }
 
 // Four bytes. The compiler makes one load of a flat sum.
-pub(crate) fn half_within(book: &[u8], at: usize) -> u32
+fn half_within(book: &[u8], at: usize) -> u32
     requires { ⌜ at + 4 ≤ length (now book) ⌝ }
     ensures { λ r. ⌜ r ≡ be32 (now (book .entry)) at ⌝ }
 {
@@ -143,12 +143,22 @@ pub(crate) fn half_within(book: &[u8], at: usize) -> u32
         + wide32(book[at + 3])
 }
 
+// Eight bytes.
+pub(crate) fn word_within(book: &[u8], at: usize) -> u64
+    requires { ⌜ at + 8 ≤ length (now book) ⌝ }
+    ensures { λ r. ⌜ r ≡ be64 (now (book .entry)) at ⌝ }
+{
+    let high = half_within(book, at);
+    let low = half_within(book, at + 4);
+    wide64(high) * 4294967296 + wide64(low)
+}
+
 // The AS of the entry or peer at an offset.
 fn as_within(book: &[u8], at: usize) -> IsdAsn
     requires { ⌜ at + 8 ≤ length (now book) ⌝ }
     ensures { λ r. ⌜ r ≡ isdAsnAt (now (book .entry)) at ⌝ }
 {
-    IsdAsn(wide64(half_within(book, at)) * 4294967296 + wide64(half_within(book, at + 4)))
+    IsdAsn(word_within(book, at))
 }
 
 // ---- entries

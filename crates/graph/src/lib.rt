@@ -32,14 +32,12 @@ pub enum Found {
     Nothing,
 }
 
-// The chain that a record is of, its edges in order: a refused book has none, and a stranger's record is of
-// none.
+// The chain that a record is of: a refused book has none, a stranger's record is of none, and of a chain the
+// number of its edges, which are those that the record names.
 pub enum Chain {
     Refused(Refusal),
     Stranger,
-    One(Edge),
-    Two(Edge, Edge),
-    Three(Edge, Edge, Edge),
+    Edges(u8),
 }
 
 // How many solutions fit in so many bytes.

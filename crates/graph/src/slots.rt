@@ -19,7 +19,7 @@ pub(crate) fn bit(b: bool) -> u8
     if b { 1 } else { 0 }
 }
 
-fn weight(e: Edge) -> u16
+pub(crate) fn weight(e: Edge) -> u16
     ensures { λ r. ⌜ (r ≡ e .weight) × (r ≤ 255) ⌝ }
 {
     e.weight as u16
@@ -36,7 +36,7 @@ pub(crate) fn edge(e: Edge) -> SolutionEdge
     }
 }
 
-fn no_edge() -> SolutionEdge
+pub(crate) fn no_edge() -> SolutionEdge
     ensures { λ r. ⌜ r ≡ noEdge ⌝ }
 {
     SolutionEdge {

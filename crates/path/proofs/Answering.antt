@@ -5,7 +5,7 @@ use native.Mathlib.Omega.{arith}
 use denote.Enum.Declared.{tagOf}
 use types.Run.{OneOf}
 use mathlib.Core.Path.{_≡_, refl, sym, ap, ap₂, _∙_, subst}
-use mathlib.Core.Logic.{inl, inr, ⊎-elim}
+use mathlib.Core.Logic.{⊎-elim}
 use mathlib.Core.List.{List, [], _∷_, _++_, map, flatMap, List·Memᴰ as Mem}
 use lib.ListN.{length, length-map}
 use Rattle.spec.specs.declared.IsdAsn.{IsdAsn}
@@ -27,6 +27,7 @@ use Rattle.spec.specs.Answers.{Assembled, assembly, leftBy, pathAnswer, refused
 use Rattle.spec.proofs.Membership.{map-mem}
 use Rattle.spec.proofs.BookLaws.{stored}
 use Rattle.spec.proofs.ByteLaws.{edges-back}
+use Rattle.spec.proofs.ChainLaws.{allowed-length}
 use Rattle.spec.proofs.LengthLaws.{solution-length}
 use Rattle.spec.proofs.AnswerLaws.{assembly-refused, assembly-small}
 use Rattle.output.specs.Write.{zeroed}
@@ -35,46 +36,24 @@ use Rattle.book.specs.Offsets.{openTable}
 use Rattle.book.proofs.Tables.{open-accepted}
 use Rattle.graph.proofs.Chain.{the-type}
 use Rattle.graph.specs.declared.Chain.{Chain}
-use Rattle.graph.specs.declared.Chain.the-variants.{Refused, Stranger, One, Two, Three}
-use Rattle.graph.specs.Recorded.{chainEdges, saidBy, recorded}
-use Rattle.graph.proofs.RecordedLaws.{OfChain, said-refused, said-stranger, said-one, said-two, said-three}
+use Rattle.graph.specs.declared.Chain.the-variants.{Refused, Stranger, Edges}
+use Rattle.graph.specs.Recorded.{recorded}
+use Rattle.graph.proofs.RecordedLaws.{OfChain, said-refused, said-stranger, said-edges}
 use Rattle.path.specs.Usable.{Ready, edgeBy, Usable}
 use Rattle.path.specs.Whole.{edgeIn, edgesIn, UsableEdges, UsableRecord}
 
--- what is left where a chain is not refused, and where it is no stranger's
+-- what is left where a chain is not refused, and where it has no edges
 abbrev pub NotRefused : Chain → Type 0
-NotRefused chain = OneOf (1 ∷ 2 ∷ 3 ∷ 4 ∷ []) (tagOf the-type chain)
+NotRefused chain = OneOf (1 ∷ 2 ∷ []) (tagOf the-type chain)
 
-abbrev pub NotStranger : Chain → Type 0
-NotStranger chain = OneOf (0 ∷ 2 ∷ 3 ∷ 4 ∷ []) (tagOf the-type chain)
+abbrev pub NotEdges : Chain → Type 0
+NotEdges chain = OneOf (0 ∷ 1 ∷ []) (tagOf the-type chain)
 
 refused-not : (x : Refusal) → NotRefused (Refused x) → ⊥
-refused-not x (inl q) = omega arith
-refused-not x (inr (inl q)) = omega arith
-refused-not x (inr (inr (inl q))) = omega arith
-refused-not x (inr (inr (inr q))) = omega arith
+refused-not x h = ⊎-elim (λ q. omega arith) (λ q. omega arith) h
 
-stranger-not : NotStranger Stranger → ⊥
-stranger-not (inl q) = omega arith
-stranger-not (inr (inl q)) = omega arith
-stranger-not (inr (inr (inl q))) = omega arith
-stranger-not (inr (inr (inr q))) = omega arith
-
--- ---- how many edges a chain has
-
-pub no-edges : (chain : Chain) → OneOf (0 ∷ 1 ∷ []) (tagOf the-type chain) → 0 ≡ length (chainEdges chain)
-no-edges (Refused r) h = refl
-no-edges Stranger h = refl
-no-edges (One e) h = absurd (⊎-elim (λ q. omega arith) (λ q. omega arith) h)
-no-edges (Two e f) h = absurd (⊎-elim (λ q. omega arith) (λ q. omega arith) h)
-no-edges (Three e f g) h = absurd (⊎-elim (λ q. omega arith) (λ q. omega arith) h)
-
-edges-few : (chain : Chain) → length (chainEdges chain) ≤ maxEdges
-edges-few (One e) = omega arith
-edges-few (Two e f) = omega arith
-edges-few (Three e f g) = omega arith
-edges-few Stranger = omega arith
-edges-few (Refused r) = omega arith
+edges-not : (n : ℕ) → NotEdges (Edges n) → ⊥
+edges-not n h = ⊎-elim (λ q. omega arith) (λ q. omega arith) h
 
 -- ---- assembly knows an edge by what a record has of it
 
@@ -149,63 +128,54 @@ edges-again c =
 
 -- ---- what the assembly of a chain goes by
 
-module _ (b : List ℕ) (src dst : IsdAsn) (given : List ℕ) (chain : Chain) (of : OfChain b src dst given (chainEdges chain)) (n : ℕ) (q : n ≡ length (chainEdges chain)) where
+module _ (b : List ℕ) (src dst : IsdAsn) (given : List ℕ) (n : ℕ) (of : (c : List Edge) × OfChain b src dst given c × (length c ≡ n)) where
   abbrev c : List Edge
-  c = chainEdges chain
+  c = of .0
+
+  few : length c ≤ maxEdges
+  few = allowed-length c (of .1 .chain .kinds)
 
   chain-edges : edgesIn given n ≡ map again c
-  chain-edges = ap₂ edgesIn (of .its) q ∙ edges-again c
+  chain-edges = ap₂ edgesIn (of .1 .its) (sym (of .2)) ∙ edges-again c
 
   pub chain-usable : UsableRecord b given n
   chain-usable =
       record {
         edges = subst (UsableEdges b) (sym chain-edges) usable;
-        room = omega (arith, ap length (of .its), solution-length c (edges-few chain));
+        room = omega (arith, ap length (of .1 .its), solution-length c few);
       }
     where
       edge : (e : Edge) → Mem e c → Usable b e
       edge e m =
-          let s = stored b (of .chain .stored e m) in
+          let s = stored b (of .1 .chain .stored e m) in
           record { position = s .position; shortcut = s .edge .shortcut; peer = s .edge .peer }
 
       usable : UsableEdges b (map again c)
       usable =
           record {
             edges = λ e m. let w = map-mem again c m in subst (Usable b) (sym (w .2)) (same-usable b (w .0) (edge (w .0) (w .1)));
-            few = omega (arith, length-map c again, edges-few chain);
+            few = omega (arith, length-map c again, few);
           }
 
   pub path-answer : (bytes : ℕ) → pathSize ≤ bytes → (r : PathAnswer) (o : List ℕ)
       → (r ≡ pathAnswer b bytes (edgesIn given n) .0) × (o ≡ pathAnswer b bytes (edgesIn given n) .1)
       → _≡_ {A = Assembled} (r, o) (assembly b src dst given bytes)
   path-answer bytes room r o p =
-      ap₂ (λ x l. (x, l)) (p .0) (p .1) ∙ ap (pathAnswer b bytes) chain-edges ∙ same-answer b bytes c ∙ sym (of .answer bytes room)
+      ap₂ (λ x l. (x, l)) (p .0) (p .1) ∙ ap (pathAnswer b bytes) chain-edges ∙ same-answer b bytes c ∙ sym (of .1 .answer bytes room)
 
 pub table-ready : (b table : List ℕ) → verdict b ≡ Accepted → table ≡ openTable b → Ready b table
 table-ready b table ok q = record { ok = ok; table = q ∙ open-accepted b refl ok }
 
 -- ---- the answers
 
-module _ (b : List ℕ) (src dst : IsdAsn) (given : List ℕ) (chain : Chain) (said : saidBy chain ≡ recorded b src dst given) where
-  pub accepted-by : NotRefused chain → verdict b ≡ Accepted
+module _ (b : List ℕ) (src dst : IsdAsn) (given : List ℕ) (chain : Chain) (said : chain ≡ recorded b src dst given) where
+  accepted-by : NotRefused chain → verdict b ≡ Accepted
   accepted-by h = go chain refl h
     where
       go : (r : Chain) → chain ≡ r → NotRefused r → verdict b ≡ Accepted
       go (Refused x) q k = absurd (refused-not x k)
       go Stranger q k = said-stranger b src dst given chain said q .ok
-      go (One e) q k = said-one b src dst given chain said e q .ok
-      go (Two e f) q k = said-two b src dst given chain said e f q .ok
-      go (Three e f g) q k = said-three b src dst given chain said e f g q .ok
-
-  pub chain-by : NotRefused chain → NotStranger chain → OfChain b src dst given (chainEdges chain)
-  chain-by h n = go chain refl h n
-    where
-      go : (r : Chain) → chain ≡ r → NotRefused r → NotStranger r → OfChain b src dst given (chainEdges chain)
-      go (Refused x) q k l = absurd (refused-not x k)
-      go Stranger q k l = absurd (stranger-not l)
-      go (One e) q k l = subst (λ r. OfChain b src dst given (chainEdges r)) (sym q) (said-one b src dst given chain said e q)
-      go (Two e f) q k l = subst (λ r. OfChain b src dst given (chainEdges r)) (sym q) (said-two b src dst given chain said e f q)
-      go (Three e f g) q k l = subst (λ r. OfChain b src dst given (chainEdges r)) (sym q) (said-three b src dst given chain said e f g q)
+      go (Edges n) q k = said-edges b src dst given chain said n q .1 .ok
 
   module _ (out zero : List ℕ) (z : zero ≡ zeroed out 0) where
     refuses : (x : Refusal) → assembly b src dst given (length out) ≡ refusedPath (length out) x
@@ -219,6 +189,11 @@ module _ (b : List ℕ) (src dst : IsdAsn) (given : List ℕ) (chain : Chain) (s
     pub small-answer : NotRefused chain → length out < pathSize → _≡_ {A = Assembled} (RefusedPath Small, zero) (assembly b src dst given (length out))
     small-answer h l = refuses Small (assembly-small b src dst (length out) given (accepted-by h) l)
 
-    pub stranger-answer : chain ≡ Stranger → pathSize ≤ length out
+    pub stranger-answer : NotRefused chain → NotEdges chain → pathSize ≤ length out
         → _≡_ {A = Assembled} (RefusedPath StrangerRefusal, zero) (assembly b src dst given (length out))
-    stranger-answer q room = refuses StrangerRefusal (said-stranger b src dst given chain said q .answer (length out) room)
+    stranger-answer h k room = refuses StrangerRefusal (said-stranger b src dst given chain said (go chain h k) .answer (length out) room)
+      where
+        go : (r : Chain) → NotRefused r → NotEdges r → r ≡ Stranger
+        go (Refused x) h k = absurd (refused-not x h)
+        go Stranger h k = refl
+        go (Edges n) h k = absurd (edges-not n k)

@@ -12,7 +12,6 @@ ghost use lib.ListN.{length};
 ghost use Rattle.spec.specs.Limits.{pathSize};
 ghost use Rattle.spec.specs.Answers.{pathAnswer, assembly};
 ghost use Rattle.path.specs.Usable.{Ready};
-ghost use Rattle.graph.specs.Recorded.{chainEdges};
 ghost use Rattle.path.specs.Whole.{edgesIn, UsableRecord};
 use graph::Chain;
 use spec::IsdAsn;
@@ -25,18 +24,6 @@ use spec::Refusal;
 const ASES: usize = 16 * 3 * Limits::ENTRIES;
 
 const IDS: usize = 4 * 3 * Limits::ENTRIES;
-
-// How many edges a chain has.
-fn edge_count(chain: Chain) -> usize
-    ensures { λ r. ⌜ r ≡ length (chainEdges chain) ⌝ }
-{
-    match chain {
-        Chain::One(_) => 1,
-        Chain::Two(_, _) => 2,
-        Chain::Three(_, _, _) => 3,
-        _ => 0,
-    }
-}
 
 // The path of a record's first `count` edges, in `out`: its record, or zeros where it is Loop or Bare.
 pub(crate) fn build(
@@ -82,9 +69,9 @@ pub fn assemble(src: IsdAsn, dst: IsdAsn, book: &[u8], given: &[u8], out: &mut [
         output::zero(out, 0);
         return PathAnswer::Refused(Refusal::Small);
     }
-    if let Chain::Stranger = chain {
+    let Chain::Edges(count) = chain else {
         output::zero(out, 0);
         return PathAnswer::Refused(Refusal::Stranger);
-    }
-    build(book, &table, given, edge_count(chain), out)
+    };
+    build(book, &table, given, count as usize, out)
 }

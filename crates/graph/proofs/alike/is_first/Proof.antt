@@ -15,10 +15,10 @@ use Rattle.graph.proofs.alike.is_first.Statement.{statement}
 use Rattle.graph.proofs.alike.is_first.Tie as tie
 
 abbrev Inv-loop : tie.InvT-loop
-Inv-loop book table k end id mac j₀ j = (j ≤ end) × (isFirst (segments book) (segmentAt book k) ≡ not (any (repeats book k) (range j (segmentCount book - j))))
+Inv-loop book table k end word mac j₀ j = (j ≤ end) × (isFirst (segments book) (segmentAt book k) ≡ not (any (repeats book k) (range j (segmentCount book - j))))
 
 abbrev μ-loop : tie.MeasureT-loop
-μ-loop book table k end id mac j₀ j = end - j
+μ-loop book table k end word mac j₀ j = end - j
 
 mac-byte-requires : tie.Need-mac-byte-requires Inv-loop μ-loop
 mac-byte-requires c κs = let p = c .before .before .pre in (p .0, (p .1 .0, some-bytes _ _ (p .0) _ (p .1 .0) (p .1 .1)))
@@ -30,7 +30,7 @@ loop-holds : tie.Need-loop-holds Inv-loop μ-loop
 loop-holds c =
     let p = c .before .before .before .before .pre in
     let n = c .next-alike .ensures in
-    (omega arith, first-all _ _ ∙ ap not (alike-skipped _ _ (p .0) _ (p .1 .0) (p .1 .1) (c .before .before .id-of .ensures) (c .before .mac-byte .ensures) 0 _ (n .0) (omega arith) (n .2)))
+    (omega arith, first-all _ _ ∙ ap not (alike-skipped _ _ (p .0) _ (p .1 .0) (p .1 .1) (c .before .before .head-word .ensures) (c .before .mac-byte .ensures) 0 _ (n .0) (omega arith) (n .2)))
 
 cast-same-segment : tie.Need-cast-same-segment Inv-loop μ-loop
 cast-same-segment c = omega arith
@@ -55,7 +55,7 @@ loop-again c =
     let a = c .before .before .before .before .before .before .before .before .before .args in
     let n = c .next-alike2 .ensures in
     let r : repeats (a .book .now) (a .k) (c .before .before .before .before .loop .j) ≡ false = repeats-is _ _ _ (c .before .before .before .loop-test .taken) ∙ sym (c .before .before .same-segment .ensures) ∙ c .before .if1 .left in
-    (omega arith, c .before .before .before .before .loop .inv .1 ∙ ap not (any-next _ _ _ (omega (arith, p .1 .0)) r ∙ alike-skipped _ _ (p .0) _ (p .1 .0) (p .1 .1) (c .before .before .before .before .before .before .before .id-of .ensures) (c .before .before .before .before .before .before .mac-byte .ensures) _ _ (n .0) (omega arith) (n .2)))
+    (omega arith, c .before .before .before .before .loop .inv .1 ∙ ap not (any-next _ _ _ (omega (arith, p .1 .0)) r ∙ alike-skipped _ _ (p .0) _ (p .1 .0) (p .1 .1) (c .before .before .before .before .before .before .before .head-word .ensures) (c .before .before .before .before .before .before .mac-byte .ensures) _ _ (n .0) (omega arith) (n .2)))
 
 returns-2 : tie.Need-returns-2 Inv-loop μ-loop
 returns-2 c =

@@ -13,7 +13,7 @@ chain-in-requires : tie.Need-chain-in-requires
 chain-in-requires c κs = opened-ready _ _ (c .before .before .before .«open» .ensures .0) (c .before .before .before .«open» .ensures .1) (c .before .enum-told .given .1)
 
 returns-2 : tie.Need-returns-2
-returns-2 c = (accepted-said _ _ (c .before .before .before .before .«open» .ensures .0) _ _ _ _ (c .before .before .enum-told .given .1) (c .chain-in .ensures), c .before .before .before .before .«open» .ensures .1)
+returns-2 c = (accepted-said _ _ (c .before .before .before .before .«open» .ensures .0) _ _ _ (c .before .before .enum-told .given .1) (c .chain-in .ensures), c .before .before .before .before .«open» .ensures .1)
 
 pub chain-of-spec : {M : Type 1} → statement M
 chain-of-spec =

@@ -1,18 +1,20 @@
--- From the vertex, and not to the goal.
+-- Not from the goal, and from where the way has come.
 -- Assumes nothing.
 use mathlib.Core.Path.{ap}
 use mathlib.Core.Bool.{not}
-use borrow.Author.Tests.{not-true, not-false}
+use Rattle.graph.specs.Named.{goesOn}
 use Rattle.graph.proofs.NamedTurns.{fails, passes}
 use borrow.Author.Needs.{needs}
 use Rattle.graph.proofs.chains.goes_on.Statement.{statement}
 use Rattle.graph.proofs.chains.goes_on.Tie as tie
 
 returns : tie.Need-returns
-returns c = fails _ (c .before .same-vertex .ensures) (not-true _ (c .if1 .taken))
+unfolding goesOn
+returns c = fails _ (ap not (c .before .same-vertex .ensures)) (ap not (c .if1 .taken))
 
 returns-2 : tie.Need-returns-2
-returns-2 c = passes (c .before .before .same-vertex .ensures) (not-false _ (c .before .if1 .left)) (ap not (c .same-vertex2 .ensures))
+unfolding goesOn
+returns-2 c = passes (ap not (c .before .before .same-vertex .ensures)) (ap not (c .before .if1 .left)) (c .same-vertex2 .ensures)
 
 pub goes-on-spec : {M : Type 1} → statement M
 goes-on-spec =

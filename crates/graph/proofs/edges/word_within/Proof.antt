@@ -1,11 +1,11 @@
--- `word` meets its contract.
+-- `word_within` meets its contract.
 -- Assumes nothing.
 use mathlib.Core.Path.{_∙_}
 use native.Mathlib.Omega.{arith}
 use Rattle.octets.proofs.Halves.{halves64}
 use borrow.Author.Needs.{needs}
-use Rattle.graph.proofs.chains.word.Statement.{statement}
-use Rattle.graph.proofs.chains.word.Tie as tie
+use Rattle.graph.proofs.edges.word_within.Statement.{statement}
+use Rattle.graph.proofs.edges.word_within.Tie as tie
 
 add-half-within : tie.Need-add-half-within
 add-half-within c = omega (arith, c .before .before .pre)
@@ -16,8 +16,8 @@ half-within-requires-2 c κs = omega (arith, c .before .before .pre)
 returns : tie.Need-returns
 returns c = halves64 _ _ (c .before .wide64 .ensures .0 ∙ c .before .before .before .half-within .ensures) (c .wide642 .ensures .0 ∙ c .before .before .half-within2 .ensures)
 
-pub word-spec : {M : Type 1} → statement M
-word-spec =
+pub word-within-spec : {M : Type 1} → statement M
+word-within-spec =
     tie.close
     (tie.spec
     (λ c κs. search needs)
