@@ -9,12 +9,12 @@ use mathlib.Core.List.{List, [], _∷_}
 use lib.ListN.{length, getD, set, take, drop, replicate, length-take, length-drop}
 use lib.Seq.{getD-take, getD-drop}
 use lib.Dec.{ltb, eqb}
-use borrow.Author.Tests.{ltb-true, ltb-false, eqb-true}
+use borrow.Author.Tests.{ltb-true, ltb-false, lt-ltb, le-ltb, eqb-true}
 use Rattle.spec.specs.declared.Verdict.the-variants.{Accepted}
 use Rattle.spec.specs.Limits.{sizesSize, headSize, entrySize, peerSize, peerCountOffset, maxSegments, maxEntries}
 use Rattle.spec.specs.Basics.{any, range, sameList}
 use Rattle.spec.specs.Octets.{be16, be32, be64}
-use Rattle.spec.specs.Book.{Segment, segmentAt, segmentCount, headOffset, wholeLength, timestampAt, idAt, entryCountAt, bodyLengthAt, bodyOffset, peerCount, entryEnd, entryOffset, verdict}
+use Rattle.spec.specs.Book.{Segment, segmentAt, cores, segmentCount, headOffset, wholeLength, timestampAt, idAt, entryCountAt, bodyLengthAt, bodyOffset, peerCount, entryEnd, entryOffset, verdict}
 use Rattle.spec.specs.Edges.{sameBool, sameSegment}
 use Rattle.spec.proofs.Membership.{and-true}
 use Rattle.spec.proofs.BookLaws.{AcceptedBook, accepted}
@@ -202,6 +202,29 @@ word-parts b k =
 same-word : (b : List ℕ) (k j : ℕ) → timestampAt b k ≡ timestampAt b j → idAt b k ≡ idAt b j → entryCountAt b k ≡ entryCountAt b j → headWordAt b k ≡ headWordAt b j
 same-word b k j p q s = word-parts b k ∙ ap₂ (λ t u. t * 2 ^ 32 + u) p (ap₂ (λ i n. i * 2 ^ 16 + n) q s) ∙ sym (word-parts b j)
 
+-- positions that hold no equal are passed over
+skipped : (b : List ℕ) (k : ℕ) → k < segmentCount b → (i j : ℕ) → i ≤ j → j ≤ k → ((m : ℕ) → i ≤ m → m < j → repeats b k m ≡ false)
+    → any (repeats b k) (range i (segmentCount b - i)) ≡ any (repeats b k) (range j (segmentCount b - j))
+skipped b k h i j p q none = go (j - i) i (omega arith) none
+  where
+    go : (d i : ℕ) → i + d ≡ j → ((m : ℕ) → i ≤ m → m < j → repeats b k m ≡ false)
+        → any (repeats b k) (range i (segmentCount b - i)) ≡ any (repeats b k) (range j (segmentCount b - j))
+    go zero i e f = let s : i ≡ j = omega arith in ap (λ m. any (repeats b k) (range m (segmentCount b - m))) s
+    go (suc d) i e f = any-next (repeats b k) (segmentCount b) i (omega arith) (f i (omega arith) (omega arith)) ∙ go d (i + 1) (omega arith) (λ m a l. f m (omega arith) l)
+
+-- a core segment equals none that is not
+pub kinds-differ : (b : List ℕ) (k c : ℕ) → c ≡ cores b → c ≤ k → (i : ℕ) → i < c → sameSegment (segmentAt b k) (segmentAt b i) ≡ false
+unfolding sameSegment segmentAt
+kinds-differ b k c q l i h =
+    ap₂
+    (λ x y. sameBool x y && eqb (timestampAt b k) (timestampAt b i) && eqb (idAt b k) (idAt b i) && sameList (segmentAt b k .body) (segmentAt b i .body))
+    (le-ltb k (cores b) (omega arith)) (lt-ltb i (cores b) (omega arith))
+    ∙ (unfold sameBool in refl)
+
+pub kind-skipped : (b : List ℕ) (k : ℕ) → k < segmentCount b → (j : ℕ) → j ≤ k → ((i : ℕ) → i < j → sameSegment (segmentAt b k) (segmentAt b i) ≡ false)
+    → any (repeats b k) (range 0 (segmentCount b - 0)) ≡ any (repeats b k) (range j (segmentCount b - j))
+kind-skipped b k h j p none = skipped b k h 0 j (omega arith) p (λ m a l. repeats-is b k m (omega arith) ∙ none m l)
+
 module _ (b t : List ℕ) (r : Ready b t) (k : ℕ) (h : k < segmentCount b) (some : 0 < entryCount (segmentAt b k)) where
   -- what equals a segment with an entry has one
   same-some : (j : ℕ) → j < segmentCount b → segmentAt b k .body ≡ segmentAt b j .body → 0 < entryCount (segmentAt b j)
@@ -233,14 +256,7 @@ module _ (b t : List ℕ) (r : Ready b t) (k : ℕ) (h : k < segmentCount b) (so
 
     pub alike-skipped : (i j : ℕ) → i ≤ j → j ≤ k → ((m : ℕ) → i ≤ m → m < j → headWordAt b m ≡ word → macByteAt b t m ≡ mac → ⊥)
         → any (repeats b k) (range i (segmentCount b - i)) ≡ any (repeats b k) (range j (segmentCount b - j))
-    alike-skipped i j p q none = go (j - i) i (omega arith) none
-      where
-        go : (d i : ℕ) → i + d ≡ j → ((m : ℕ) → i ≤ m → m < j → headWordAt b m ≡ word → macByteAt b t m ≡ mac → ⊥)
-            → any (repeats b k) (range i (segmentCount b - i)) ≡ any (repeats b k) (range j (segmentCount b - j))
-        go zero i e f = let s : i ≡ j = omega arith in ap (λ m. any (repeats b k) (range m (segmentCount b - m))) s
-        go (suc d) i e f =
-            any-next (repeats b k) (segmentCount b) i (omega arith) (other i (omega arith) (f i (omega arith) (omega arith)))
-            ∙ go d (i + 1) (omega arith) (λ m a l. f m (omega arith) l)
+    alike-skipped i j p q none = skipped b k h i j p q (λ m a l. other m (omega arith) (none m a l))
 
 -- the positions from an earlier one up to j, and j itself, differ
 module _ (b t : List ℕ) (from j : ℕ) {word mac : ℕ} (none : (i : ℕ) → from ≤ i → i < j → headWordAt b i ≡ word → macByteAt b t i ≡ mac → ⊥) where

@@ -1,12 +1,13 @@
 // The first of equal segments, by the table of entry offsets: few segments have the timestamp, id and entry count of
 // another and a byte of its first MAC, so that few are compared.
 ghost use mathlib.Core.Path.{_≡_};
+ghost use mathlib.Core.Bool.{false};
 ghost use Prim.Native.Nat.{ℕ, _+_, _-_, _≤_, _<_};
 ghost use lib.ListN.{length};
 ghost use Rattle.spec.specs.declared.Verdict.the-variants.{Accepted};
 ghost use Rattle.spec.specs.Limits.{entrySize};
 ghost use Rattle.spec.specs.Book.{segments, segmentAt, segmentCount, verdict};
-ghost use Rattle.spec.specs.Edges.{isFirst};
+ghost use Rattle.spec.specs.Edges.{isFirst, sameSegment};
 ghost use Rattle.graph.specs.Leaving.{entryCount};
 ghost use Rattle.graph.specs.Ready.{Ready};
 ghost use Rattle.graph.specs.Alike.{headWordAt, macByteAt};
@@ -64,6 +65,17 @@ fn next_alike(
     j
 }
 
+// Where those of its kind begin: a segment of the other kind is no equal.
+fn kind_start(book: &[u8], k: u8) -> usize
+    ensures { λ r. ⌜ (r ≤ k) × ((i : ℕ) → i < r → sameSegment (segmentAt (now (book .entry)) k) (segmentAt (now (book .entry)) i) ≡ false) ⌝ }
+{
+    let cores = edges::wide(segment::sizes(book).cores);
+    if (k as usize) < cores {
+        return 0;
+    }
+    cores
+}
+
 // No equal segment stands at a lower position.
 pub(crate) fn is_first(book: &[u8], table: &[u16; PLACES], k: u8) -> bool
     requires { ⌜ Ready (now book) (now table) ⌝ }
@@ -74,7 +86,7 @@ pub(crate) fn is_first(book: &[u8], table: &[u16; PLACES], k: u8) -> bool
     let end = k as usize;
     let word = head_word(book, end);
     let mac = mac_byte(book, table, end);
-    let mut j = next_alike(book, table, word, mac, 0, end);
+    let mut j = next_alike(book, table, word, mac, kind_start(book, k), end);
     while j < end {
         if equal::same_segment(book, k, j as u8) {
             return false;

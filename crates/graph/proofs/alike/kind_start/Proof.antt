@@ -1,0 +1,24 @@
+-- `kind_start` meets its contract.
+-- Assumes nothing.
+use native.Mathlib.Omega.{arith}
+use mathlib.Core.Path.{_∙_}
+use Rattle.segment.proofs.Fields.{cores-read}
+use Rattle.graph.proofs.AlikeLaws.{kinds-differ}
+use borrow.Author.Needs.{needs}
+use Rattle.graph.proofs.alike.kind_start.Statement.{statement}
+use Rattle.graph.proofs.alike.kind_start.Tie as tie
+
+returns : tie.Need-returns
+returns c = (omega arith, λ i h. absurd (omega arith))
+
+returns-2 : tie.Need-returns-2
+returns-2 c = (omega arith, kinds-differ _ _ _ (c .before .wide .ensures .0 ∙ cores-read _ (c .before .before .sizes .ensures)) (omega arith))
+
+pub kind-start-spec : {M : Type 1} → statement M
+kind-start-spec =
+    tie.close
+    (tie.spec
+    (λ c κs. search needs)
+    (λ c κs. search needs)
+    returns
+    returns-2)
