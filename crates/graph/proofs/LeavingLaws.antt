@@ -1,15 +1,14 @@
 -- The stored edges that leave an AS are those that the code walks over, each once.
 -- Assumes nothing.
-use Prim.Native.Nat.{ℕ, zero, suc, _+_, _-_, _≤_, _<_}
+use Prim.Native.Nat.{ℕ, zero, suc, _+_, _-_, _<_}
 use native.Mathlib.Numerals.{add-one}
 use native.Mathlib.Omega.{arith}
 use mathlib.Core.Path.{_≡_, refl, sym, ap, ap₂, _∙_, subst}
-use mathlib.Core.Logic.{_⊎_, inl, inr, ⊎-elim}
+use mathlib.Core.Logic.{_⊎_, ⊎-elim}
 use mathlib.Core.Bool.{Bool, true, false, _&&_, not}
-use mathlib.Core.List.{List, [], _∷_, _++_, flatMap, List·Memᴰ as Mem, List·Memᴰ·head as head, List·Memᴰ·not-nil as not-nil, List·Memᴰ·cases-cons as cases-cons, List·Memᴰ·append-cases as append-cases, Memᴰ·append-left, Memᴰ·append-right, head-eq-of-cons-eq}
-use lib.ListN.{length}
+use mathlib.Core.List.{[], _∷_, flatMap, List·Memᴰ as Mem, List·Memᴰ·head as head, List·Memᴰ·not-nil as not-nil, List·Memᴰ·cases-cons as cases-cons, List·Memᴰ·append-cases as append-cases, Memᴰ·append-left, Memᴰ·append-right}
 use lib.Dec.{ltb, eqb}
-use borrow.Author.Tests.{eqb-true, eqb-false, ltb-true, lt-ltb, not-true}
+use borrow.Author.Tests.{eqb-true, ltb-true, lt-ltb, not-true}
 use Rattle.spec.specs.declared.IsdAsn.{IsdAsn}
 use Rattle.spec.specs.declared.Vertex.{Vertex}
 use Rattle.spec.specs.declared.Vertex.the-variants.{AS, Peering}
@@ -24,7 +23,7 @@ use Rattle.spec.proofs.OnceLaws.{range-mem, once-range, once-lasting}
 use Rattle.spec.proofs.BookLaws.{mem-range}
 use Rattle.graph.specs.Lookup.{hasEnds, between, leavingOf}
 use Rattle.graph.specs.Leaving.{entryCount, peerCountOf, linkOf, isEntryOf, asStands, isLink, hasLink, peerStands, asUp, peerUp, upsAt, leavingIn}
-use Rattle.graph.specs.Scan.{firstWith, lastWith, entryWith, entryLinked, peerLinked, asEdgeAt, peerEdgeAt}
+use Rattle.graph.specs.Scan.{entryWith, entryLinked, peerLinked, asEdgeAt, peerEdgeAt}
 use Rattle.graph.proofs.LookupScan.{when, first-is, is-first, first-passes, last-is, is-last, last-passes, last-le, any-last}
 use Rattle.graph.proofs.LookupLaws.{as-eq, eq-sameAs, eq-ends, between-stored, stored-between, up-as, up-link, no-leaf, none-stored}
 

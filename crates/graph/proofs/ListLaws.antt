@@ -4,10 +4,10 @@ use Prim.Native.Nat.{ℕ, _+_, _-_, _*_, _≤_, _<_, min}
 use native.Mathlib.Nat.{min-eq-left}
 use native.Mathlib.Decide.{decLe}
 use native.Mathlib.Omega.{arith}
-use mathlib.Core.Path.{_≡_, refl, sym, ap, ap₂, _∙_, subst}
+use mathlib.Core.Path.{_≡_, sym, ap, ap₂, _∙_}
 use mathlib.Core.Bool.{true, false}
-use mathlib.Core.List.{List, [], _∷_, _++_, map, flatMap, List·Memᴰ as Mem}
-use lib.ListN.{length, take, drop, replicate, length-append, length-drop}
+use mathlib.Core.List.{List, _++_, flatMap}
+use lib.ListN.{length, drop, replicate, length-append, length-drop}
 use lib.Seq.{take-at}
 use borrow.Author.Tests.{le-ltb, lt-ltb}
 use Rattle.spec.specs.declared.IsdAsn.{IsdAsn}
@@ -17,10 +17,9 @@ use Rattle.spec.specs.declared.Verdict.the-variants.{Accepted, Refused as Refus
 use Rattle.spec.specs.declared.Refusal.{Refusal}
 use Rattle.spec.specs.declared.Refusal.the-variants.{Full}
 use Rattle.spec.specs.declared.ListAnswer.the-variants.{Count, Refused as RefusedList}
-use Rattle.spec.specs.Limits.{solutionSize, maxEdges, maxSlots}
+use Rattle.spec.specs.Limits.{solutionSize, maxSlots}
 use Rattle.spec.specs.Basics.{padded}
 use Rattle.spec.specs.Book.{verdict}
-use Rattle.spec.specs.Chains.{IsChain}
 use Rattle.spec.specs.Order.{solutions}
 use Rattle.spec.specs.Records.{solutionOctets, slots}
 use Rattle.spec.specs.Answers.{Listed, listing, refusedList}

@@ -1,27 +1,27 @@
 -- What a segment stores between two vertices is the last insertion with these ends; and which that is.
 -- Assumes nothing.
-use Prim.Native.Nat.{ℕ, zero, suc, _+_, _-_, _≤_, _<_}
+use Prim.Native.Nat.{ℕ, zero, suc, _+_, _-_, _≤_}
 use native.Mathlib.Numerals.{add-one}
 use native.Mathlib.Decide.{ℕ-discrete}
 use native.Mathlib.Omega.{arith}
 use mathlib.Core.Path.{_≡_, refl, sym, ap, ap₂, _∙_, subst}
-use mathlib.Core.Logic.{_⊎_, inl, inr, ⊎-elim}
-use mathlib.Core.Bool.{Bool, true, false, _&&_, _||_, not}
-use mathlib.Core.List.{List, [], _∷_, _++_, flatMap, reverse, List·Memᴰ as Mem, List·Memᴰ·head as head, List·Memᴰ·not-nil as not-nil, List·Memᴰ·cases-cons as cases-cons}
+use mathlib.Core.Logic.{_⊎_, ⊎-elim}
+use mathlib.Core.Bool.{Bool, true, false, _&&_, _||_}
+use mathlib.Core.List.{List, [], _∷_, _++_, flatMap, reverse, List·Memᴰ as Mem, List·Memᴰ·not-nil as not-nil, List·Memᴰ·cases-cons as cases-cons}
 use lib.ListN.{length}
-use lib.Dec.{ltb, eqb}
-use borrow.Author.Tests.{eqb-true, eqb-false, ltb-true, ltb-false, lt-ltb, le-ltb, ne-eqb, eq-eqb}
+use lib.Dec.{ltb}
+use borrow.Author.Tests.{le-ltb, ne-eqb, eq-eqb}
 use Rattle.spec.specs.declared.IsdAsn.{IsdAsn}
 use Rattle.spec.specs.declared.Vertex.{Vertex}
 use Rattle.spec.specs.declared.Vertex.the-variants.{AS, Peering}
 use Rattle.spec.specs.declared.Edge.{Edge}
 use Rattle.spec.specs.Basics.{if_then_else_, any, filter, range}
 use Rattle.spec.specs.Book.{Segment}
-use Rattle.spec.specs.Edges.{sameAs, sameVertex, entryOf, asOf, leafAs, peerOf, edgeOf, coreInsertions, asInsertions, peerInsertions, entryInsertions, insertions, sameEnds, lasting, storedOf}
+use Rattle.spec.specs.Edges.{sameAs, sameVertex, asOf, leafAs, peerOf, edgeOf, coreInsertions, asInsertions, peerInsertions, entryInsertions, insertions, sameEnds, lasting, storedOf}
 use Rattle.spec.specs.Chains.{leaves}
 use Rattle.spec.proofs.Membership.{and-true, true-and, not-both, filter-mem, mem-filter}
 use Rattle.spec.proofs.Lists.{reverse-range}
-use Rattle.spec.proofs.Vertices.{sameAs-eq, sameAs-refl, sameVertex-eq, sameVertex-refl, eq-sameVertex}
+use Rattle.spec.proofs.Vertices.{sameAs-eq, sameAs-refl, sameVertex-eq, eq-sameVertex}
 use Rattle.graph.specs.Lookup.{hasEnds, between, leavingOf}
 use Rattle.graph.specs.Leaving.{entryCount, peerCountOf, linkOf, isEntryOf, isLink, hasLink}
 use Rattle.graph.specs.Scan.{firstWith, lastWith, joins, entryWith, entryLinked, peerLinked, asEdgeAt, peerEdgeAt, coreEdge, coreEdgeFrom}

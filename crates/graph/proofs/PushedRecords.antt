@@ -2,8 +2,7 @@
 -- Assumes nothing.
 use Prim.Native.Nat.{ℕ, _+_, _*_, _-_, _/_, _%_, _^_, _≤_, _<_}
 use native.Mathlib.Omega.{arith}
-use mathlib.Core.Path.{_≡_, refl, sym, ap, ap₂, _∙_, subst}
-use mathlib.Core.Bool.{Bool}
+use mathlib.Core.Path.{_≡_, refl, sym, ap, _∙_, subst}
 use mathlib.Core.List.{List, [], _∷_, _++_, map, flatMap}
 use lib.ListN.{length, getD, set, take, drop, replicate}
 use lib.Seq.{take-all}
@@ -11,14 +10,14 @@ use Rattle.spec.specs.declared.Edge.{Edge}
 use Rattle.spec.specs.declared.SolutionEdge.{SolutionEdge}
 use Rattle.spec.specs.declared.Solution.{Solution}
 use Rattle.spec.specs.Limits.{maxEdges, solutionSize}
-use Rattle.spec.specs.Basics.{range, padded, sum}
+use Rattle.spec.specs.Basics.{range, padded}
 use Rattle.spec.specs.Octets.{octets2}
-use Rattle.spec.specs.Order.{cost, weightOf, solutionEdge}
+use Rattle.spec.specs.Order.{cost, solutionEdge}
 use Rattle.spec.specs.Records.{bit, edgeOctets, edgeAt, noEdge, solutionOf, solutionOctets}
 use Rattle.output.specs.Write.{written}
 use Rattle.output.proofs.Writing.{copied, copied-more, written-within}
 use Rattle.graph.specs.Pushed.{Slots, putAt, edgeBytes, recordOctets, pushRecord, pushed, Pushes}
-use Rattle.graph.proofs.PushedLaws.{record-room, record-full, pushed-one, pushed-most}
+use Rattle.graph.proofs.PushedLaws.{record-room, pushed-one, pushed-most}
 
 -- ---- bytes
 

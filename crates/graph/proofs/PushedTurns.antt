@@ -5,7 +5,7 @@ use native.Mathlib.Omega.{arith}
 use mathlib.Core.Path.{_≡_, refl, sym, ap, ap₂, _∙_, subst}
 use mathlib.Core.List.{List, [], _++_, append-nil}
 use Rattle.spec.specs.declared.Edge.{Edge}
-use Rattle.graph.specs.Pushed.{Slots, pushed, Room, Pushes}
+use Rattle.graph.specs.Pushed.{Slots, pushed, Pushes}
 use Rattle.graph.proofs.PushedLaws.{pushed-append, pushed-none, pushed-full}
 
 -- all of the chains pushed before are those that are left pushed now

@@ -20,10 +20,13 @@ use spec::Path;
 use spec::PathAnswer;
 use spec::Refusal;
 
-// The bytes of the ASes and of the ids of a path with the most interfaces: two for each hop.
-const ASES: usize = 16 * 3 * Limits::ENTRIES;
+// The most interfaces of a path: two for each hop of three edges.
+const INTERFACES: usize = 2 * 3 * Limits::ENTRIES;
 
-const IDS: usize = 4 * 3 * Limits::ENTRIES;
+// The bytes of their ASes, and of their ids.
+const ASES: usize = 8 * INTERFACES;
+
+const IDS: usize = 2 * INTERFACES;
 
 // The path of a record's first `count` edges, in `out`: its record, or zeros where it is Loop or Bare.
 pub(crate) fn build(

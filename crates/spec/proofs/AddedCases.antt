@@ -22,7 +22,7 @@ use Rattle.spec.specs.Records
 use Rattle.spec.specs.Router
 use Rattle.spec.specs.Answers
 use Rattle.spec.specs.Printed
-use Rattle.spec.proofs.CasesForm.{entry, peer, Draft, segment, book, edge, solution, Question, accept, list, print, assemble, hold, room, live, input, Case, case, answer, right, every, a110, a111, a112, mac0, mac1}
+use Rattle.spec.proofs.CasesForm.{entry, peer, segment, book, edge, solution, accept, list, print, assemble, hold, room, input, Case, case, answer, right, every, a110, a111, a112, mac0, mac1}
 
 -- ---- more ASes and MACs
 

@@ -24,7 +24,7 @@ use Rattle.spec.specs.Book.{verdict}
 use Rattle.spec.specs.Chains.{IsChain, chains}
 use Rattle.spec.specs.Order.{solutionEdge, solutions}
 use Rattle.spec.specs.Assembly.{CombinedPath, combinedPath, isLoop, isBare, outcome}
-use Rattle.spec.specs.Records.{edgeOctets, solutionOctets, pathOctets, slots}
+use Rattle.spec.specs.Records.{edgeOctets, solutionOctets, slots}
 use Rattle.spec.specs.Router.{RouterAgrees}
 use Rattle.spec.specs.declared.PathInterface.{PathInterface}
 use Rattle.spec.specs.declared.ListAnswer.the-variants.{Count}

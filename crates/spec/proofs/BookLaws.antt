@@ -21,7 +21,7 @@ use Rattle.spec.specs.Limits.{sizesSize, maxBook, maxSegments, maxEntrie
 use Rattle.spec.specs.Basics.{if_then_else_, any, range}
 use Rattle.spec.specs.Octets.{Bytes, be16, be32}
 use Rattle.spec.specs.Book.{Entry, segmentCount, bodyTotal, wholeLength, lengthsBelow, isLong, tooLong, bodiesVerdict, verdict, macAt, asEntryAt, peerEntryAt, peerOffset, peerOfEntryAt, peerCount, entryAt, entriesAt, entryEnd, segmentAt, segments, entryCountAt, bodyOffset, idAt, timestampAt}
-use Rattle.spec.specs.Edges.{noEntry, noPeer, entryOf, peerOf, lasting, insertions, firsts, storedOf, storedEdges}
+use Rattle.spec.specs.Edges.{noEntry, noPeer, entryOf, peerOf, insertions, firsts, storedOf, storedEdges}
 use Rattle.spec.specs.Assembly.{foldStep, foldMacs, macOf, idBelow, inDirection, usedEntries, hopOf, hopsOf, infoOf, segmentOf, isPeerHop}
 use Rattle.spec.proofs.Membership.{not-both, filter-mem, map-mem, flatMap-mem}
 use Rattle.spec.proofs.OnceLaws.{any-mem, Inserted, inserted, lasting-mem, reverse-mem, range-mem, segment-position}

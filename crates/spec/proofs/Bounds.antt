@@ -4,16 +4,15 @@
 use Prim.Native.Nat.{ℕ, _+_, _*_, _^_, _≤_, _<_, zero-le}
 use native.Mathlib.Nat.{suc-mul, zero-mul}
 use native.Mathlib.Omega.{arith}
-use mathlib.Core.Path.{_≡_, refl, sym, ap, _∙_, subst}
+use mathlib.Core.Path.{_≡_, refl, sym, ap, _∙_}
 use mathlib.Core.Bool.{Bool, true, false}
-use mathlib.Core.List.{List, [], _∷_, _++_, map, flatMap, reverse, List·Memᴰ as Mem, List·Memᴰ·head as head, List·Memᴰ·tail as tail}
-use lib.ListN.{length, length-append, length-map, length-reverse}
+use mathlib.Core.List.{List, [], _∷_, _++_, map, flatMap, List·Memᴰ as Mem, List·Memᴰ·head as head, List·Memᴰ·tail as tail}
+use lib.ListN.{length, length-append, length-map}
 use Rattle.spec.specs.declared.IsdAsn.{IsdAsn}
 use Rattle.spec.specs.declared.HopField.{HopField}
-use Rattle.spec.specs.declared.PathInterface.{PathInterface}
 use Rattle.spec.specs.declared.Edge.{Edge}
 use Rattle.spec.specs.Limits.{maxEdges, maxEntries, maxPeers, maxSegments, pathSize, pathHeadSize, infoSize, hopSize, interfaceSize}
-use Rattle.spec.specs.Basics.{if_then_else_, range, sum}
+use Rattle.spec.specs.Basics.{range, sum}
 use Rattle.spec.specs.Order.{weightOf, cost}
 use Rattle.spec.specs.Octets.{Bytes, octets2, octets4, octets8}
 use Rattle.spec.specs.Book.{Segment, entryCountAt, entryAt, entryOffset, bodyOffset, peerCount, peerOfEntryAt, segmentAt}

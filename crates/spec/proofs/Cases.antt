@@ -2,8 +2,8 @@
 -- Every answer is document 01's own. No case depends on the digest.
 -- Assumes nothing.
 use Prim.Native.Nat.{ℕ}
-use mathlib.Core.List.{List, [], _∷_, _++_, flatMap}
-use lib.ListN.{length, replicate}
+use mathlib.Core.List.{List, [], _∷_, flatMap}
+use lib.ListN.{replicate}
 use lib.Dec.{T}
 use Rattle.spec.specs.Basics
 use Rattle.spec.specs.Octets
@@ -15,7 +15,7 @@ use Rattle.spec.specs.Assembly
 use Rattle.spec.specs.Records
 use Rattle.spec.specs.Answers
 use Rattle.spec.specs.Printed
-use Rattle.spec.proofs.CasesForm.{entry, peer, Draft, segment, book, edge, solution, Question, accept, list, print, live, input, Case, case, answer, right, every, a110, a111, a112, mac0, mac1}
+use Rattle.spec.proofs.CasesForm.{entry, peer, Draft, segment, book, edge, solution, accept, list, print, live, input, Case, case, answer, right, every, a110, a111, a112, mac0, mac1}
 
 -- ---- the books
 

@@ -1,17 +1,16 @@
 -- Outputs keep their length, and what is no list or path leaves zeros: demand 1 over the definitions.
 -- Assumes nothing.
-use Prim.Native.Nat.{ℕ, _+_, _-_, _*_, _/_, _≤_, min}
+use Prim.Native.Nat.{ℕ, _-_, _*_, _≤_}
 use native.Mathlib.Nat.{div-mul-le-self}
 use native.Mathlib.Omega.{arith}
-use mathlib.Core.Path.{_≡_, refl, sym, ap, _∙_, subst}
+use mathlib.Core.Path.{_≡_, refl, subst}
 use mathlib.Core.Bool.{Bool, true, false}
-use mathlib.Core.List.{List, [], _∷_, _++_, map, flatMap, List·Memᴰ as Mem, List·Memᴰ·head as head, List·Memᴰ·tail as tail}
+use mathlib.Core.List.{List, [], _∷_, map, flatMap, List·Memᴰ as Mem, List·Memᴰ·head as head, List·Memᴰ·tail as tail}
 use lib.ListN.{length, replicate, length-append, length-map, length-replicate}
 use lib.Dec.{ltb}
 use borrow.Author.Tests.{ltb-false}
 use Rattle.spec.specs.declared.IsdAsn.{IsdAsn}
 use Rattle.spec.specs.declared.Edge.{Edge}
-use Rattle.spec.specs.declared.SolutionEdge.{SolutionEdge}
 use Rattle.spec.specs.declared.Refusal.{Refusal}
 use Rattle.spec.specs.declared.Refusal.the-variants.{Full, Small, Stranger}
 use Rattle.spec.specs.declared.Verdict.{Verdict}
@@ -20,12 +19,12 @@ use Rattle.spec.specs.declared.ListAnswer.{ListAnswer}
 use Rattle.spec.specs.declared.ListAnswer.the-variants.{Count, Refused as RefusedList}
 use Rattle.spec.specs.declared.PathAnswer.{PathAnswer}
 use Rattle.spec.specs.declared.PathAnswer.the-variants.{Path, Loop, Bare, Refused as RefusedPath}
-use Rattle.spec.specs.Limits.{maxEdges, maxSlots, solutionSize, edgeSize, pathSize}
+use Rattle.spec.specs.Limits.{maxEdges, solutionSize, edgeSize, pathSize}
 use Rattle.spec.specs.Basics.{if_then_else_, sameList, padded}
 use Rattle.spec.specs.Octets.{Bytes, octets2}
 use Rattle.spec.specs.Book.{verdict}
-use Rattle.spec.specs.Chains.{IsChain, chains}
-use Rattle.spec.specs.Order.{cost, solutionEdge, solutions}
+use Rattle.spec.specs.Chains.{chains}
+use Rattle.spec.specs.Order.{solutionEdge, solutions}
 use Rattle.spec.specs.Assembly.{CombinedPath, combinedPath, outcome}
 use Rattle.spec.specs.Records.{edgeOctets, solutionOctets, pathOctets, slots}
 use Rattle.spec.specs.Answers.{Listed, Assembled, refusedList, listingOf, listingOn, listing, refusedPath, leftBy, pathAnswer, pathOfRecord, assemblyOn, assembly}

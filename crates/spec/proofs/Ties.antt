@@ -13,7 +13,7 @@ use Rattle.spec.specs.declared.Vertex.the-variants.{AS, Peering}
 use Rattle.spec.specs.declared.Edge.{Edge}
 use Rattle.spec.specs.Basics.{if_then_else_, range}
 use Rattle.spec.specs.Book.{Segment, segments}
-use Rattle.spec.specs.Edges.{entryOf, asOf, leafAs, peerOf, edgeOf, coreInsertions, asInsertions, peerInsertions, entryInsertions, insertions, lasting, firsts, storedOf, storedEdges}
+use Rattle.spec.specs.Edges.{entryOf, asOf, leafAs, peerOf, edgeOf, coreInsertions, asInsertions, peerInsertions, entryInsertions, insertions, firsts, storedOf, storedEdges}
 use Rattle.spec.specs.Chains.{Leads}
 use Rattle.spec.proofs.Membership.{filter-mem, flatMap-mem}
 use Rattle.spec.proofs.ChainLaws.{Among}

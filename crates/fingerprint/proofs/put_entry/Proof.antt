@@ -1,11 +1,10 @@
 -- `put_entry` meets its contract.
 -- Assumes nothing.
-use mathlib.Core.Path.{sym, ap, _∙_}
+use mathlib.Core.Path.{ap, _∙_}
 use Prim.Native.Nat.{_+_}
 use native.Mathlib.Omega.{arith}
-use lib.ListN.{length, take, drop}
+use lib.ListN.{take, drop}
 use Rattle.output.specs.Write.{written}
-use Rattle.output.proofs.Writing.{written-length}
 use Rattle.fingerprint.proofs.Printing.{entry-copied}
 use borrow.Author.Needs.{needs}
 use Rattle.fingerprint.proofs.put_entry.Statement.{statement}

@@ -1,7 +1,6 @@
 -- `count_within` meets its contract.
 -- Assumes nothing.
 use mathlib.Core.Path.{_∙_}
-use native.Mathlib.Omega.{arith}
 use Rattle.book.proofs.Turns.{count-read}
 use borrow.Author.Needs.{needs}
 use Rattle.book.proofs.numbers.count_within.Statement.{statement}

@@ -1,7 +1,6 @@
 -- `length_within` meets its contract.
 -- Assumes nothing.
 use mathlib.Core.Path.{_∙_}
-use native.Mathlib.Omega.{arith}
 use Rattle.book.proofs.Turns.{length-read}
 use borrow.Author.Needs.{needs}
 use Rattle.book.proofs.numbers.length_within.Statement.{statement}

@@ -1,6 +1,5 @@
 -- `peer_up` meets its contract.
 -- Assumes nothing.
-use native.Mathlib.Omega.{arith}
 use Rattle.graph.specs.Lookup.{foundEdges}
 use Rattle.graph.proofs.LookupReads.{leaf-read, link-some, up-later, up-lower, peer-up-made}
 use borrow.Author.Needs.{needs}

@@ -1,6 +1,5 @@
 -- The second edge arrives, or third edges are looked for.
 -- Assumes nothing.
-use native.Mathlib.Omega.{arith}
 use Rattle.graph.proofs.PushedTurns.{pushes-as}
 use Rattle.graph.proofs.SearchTurns.{across-arrived, across-onward}
 use borrow.Author.Needs.{needs}
