@@ -25,7 +25,7 @@ use Rattle.spec.proofs.BookLaws.{passed, mem-range}
 use Rattle.segment.proofs.Positions.{one-less, body-more, any-done}
 use Rattle.segment.proofs.Fields.{total-read}
 use Rattle.segment.proofs.Fitting.{end-is}
-use Rattle.book.specs.Sizes.{sizesVerdict, Sized, Fronted, Body}
+use Rattle.book.specs.Sizes.{sizesVerdict, Sized, Fronted, Body, entrySizes}
 
 -- ---- the entries of a body
 
@@ -319,3 +319,15 @@ module _ (b : List ℕ) {n start : ℕ} (z : Fronted b n start) where
 
 pub not-accepted : {A : Type 0} {r : Refusal} → Refused r ≡ Accepted → A
 not-accepted q = let z : _≡_ {A = ℕ} 0 1 = cc in absurd (omega arith)
+
+-- the size of an entry, looked up by the number of its peers
+pub size-looked : (s : List ℕ) → s ≡ entrySizes → (p : ℕ) → p ≤ maxPeers → getD s p 0 ≡ entrySize + peerSize * p
+size-looked s q p h = ap (λ l. getD l p 0) q ∙ go p h
+  where
+    go : (p : ℕ) → p ≤ maxPeers → getD entrySizes p 0 ≡ entrySize + peerSize * p
+    go zero h = refl
+    go (suc zero) h = refl
+    go (suc (suc zero)) h = refl
+    go (suc (suc (suc zero))) h = refl
+    go (suc (suc (suc (suc zero)))) h = refl
+    go (suc (suc (suc (suc (suc p))))) h = absurd (omega arith)

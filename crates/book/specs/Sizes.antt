@@ -1,15 +1,15 @@
 -- The answer about a book before its bodies, and what the pass over them goes by.
 -- Assumes nothing.
-use Prim.Native.Nat.{ℕ, _≤_, _<_}
+use Prim.Native.Nat.{ℕ, _+_, _*_, _≤_, _<_}
 use mathlib.Core.Path.{_≡_}
 use mathlib.Core.Bool.{false, not}
-use mathlib.Core.List.{List}
+use mathlib.Core.List.{List, [], _∷_}
 use lib.ListN.{length}
 use lib.Dec.{ltb, eqb}
 use Rattle.spec.specs.declared.Refusal.the-variants.{Cut, Surplus, Oversize, Crowded, Long, Misfit}
 use Rattle.spec.specs.declared.Verdict.{Verdict}
 use Rattle.spec.specs.declared.Verdict.the-variants.{Accepted, Refused}
-use Rattle.spec.specs.Limits.{sizesSize, maxBook, maxSegments, maxEntries}
+use Rattle.spec.specs.Limits.{sizesSize, entrySize, peerSize, maxBook, maxSegments, maxEntries}
 use Rattle.spec.specs.Basics.{if_then_else_}
 use Rattle.spec.specs.Book.{segmentCount, bodyTotal, lengthsBelow, bodyOffset, wholeLength, tooLong}
 
@@ -47,3 +47,8 @@ pub record Body (b : List ℕ) (k start end count : ℕ) : Type 0 where
   pub filled : start ≤ end
   pub inside : end ≤ length b
   pub small : length b ≤ maxBook
+
+-- the bytes of an entry with its peers, by their number
+abbrev pub entrySizes : List ℕ
+entrySizes =
+    (entrySize + peerSize * 0) ∷ (entrySize + peerSize * 1) ∷ (entrySize + peerSize * 2) ∷ (entrySize + peerSize * 3) ∷ (entrySize + peerSize * 4) ∷ []

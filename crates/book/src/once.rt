@@ -9,6 +9,7 @@ use crate::numbers::count_within;
 use crate::numbers::length_within;
 use crate::numbers::wide;
 use crate::rows::PLACES;
+use crate::rows::entry_sizes;
 use crate::rows::fill_row;
 use spec::Head;
 use spec::Limits;
@@ -21,6 +22,7 @@ fn scan(book: &[u8], table: &mut [u16; PLACES], count: u8, start: usize) -> bool
     requires { ⌜ now table ≡ noOffsets ⌝ }
     ensures { λ r. ⌜ (r ≡ true → (verdict (now (book .entry)) ≡ Accepted) × (now (table .exit) ≡ offsetTable (now (book .entry)))) ⌝ }
 {
+    let sizes = entry_sizes();
     let mut at = start;
     let mut k: u8 = 0;
     while k < count {
@@ -32,7 +34,7 @@ fn scan(book: &[u8], table: &mut [u16; PLACES], count: u8, start: usize) -> bool
         if book.len() < end {
             return false;
         }
-        let v = fill_row(book, table, k, at, end, n);
+        let v = fill_row(book, &sizes, table, k, at, end, n);
         if let Verdict::Refused(_) = v {
             return false;
         }

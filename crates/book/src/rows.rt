@@ -5,7 +5,7 @@ ghost use Rattle.spec.specs.declared.Verdict.the-variants.{Accepted};
 ghost use Rattle.spec.specs.Limits.{maxEntries};
 ghost use Rattle.spec.specs.Book.{segmentCount, entriesVerdict, bodiesVerdict};
 ghost use Rattle.book.specs.Offsets.{noOffsets, withRow, offsetTable};
-ghost use Rattle.book.specs.Sizes.{Sized, Body};
+ghost use Rattle.book.specs.Sizes.{Sized, Body, entrySizes};
 use crate::numbers::count_within;
 use crate::numbers::length_within;
 use crate::numbers::wide;
@@ -18,9 +18,26 @@ use spec::Verdict;
 // The places of the table: a row for each position, a place in it for each entry.
 pub const PLACES: usize = Limits::SEGMENTS * Limits::ENTRIES;
 
+// How many numbers of peers an entry may have.
+const COUNTS: usize = Limits::PEERS + 1;
+
+// The bytes of an entry with its peers, by their number: looking them up is shorter than working them out.
+pub(crate) fn entry_sizes() -> [usize; COUNTS]
+    ensures { λ r. ⌜ r ≡ entrySizes ⌝ }
+{
+    [
+        AsEntry::SIZE,
+        AsEntry::SIZE + PeerEntry::SIZE,
+        AsEntry::SIZE + PeerEntry::SIZE * 2,
+        AsEntry::SIZE + PeerEntry::SIZE * 3,
+        AsEntry::SIZE + PeerEntry::SIZE * 4,
+    ]
+}
+
 // The `count` entries of the body from `start` to `end`: tests them, and stores their offsets in row k.
 pub(crate) fn fill_row(
     book: &[u8],
+    sizes: &[usize; COUNTS],
     table: &mut [u16; PLACES],
     k: u8,
     start: usize,
@@ -28,6 +45,7 @@ pub(crate) fn fill_row(
     count: usize,
 ) -> Verdict
     requires { ⌜ Body (now book) k start end count ⌝ }
+    requires { ⌜ now sizes ≡ entrySizes ⌝ }
     ensures { λ r. ⌜ (r ≡ entriesVerdict (now (book .entry)) end start count) × (r ≡ Accepted → now (table .exit) ≡ withRow (now (book .entry)) start (maxEntries * k) count (now (table .entry))) ⌝ }
 {
     let row = Limits::ENTRIES * (k as usize);
@@ -43,7 +61,7 @@ pub(crate) fn fill_row(
             return Verdict::Refused(Refusal::Peers);
         }
         table[row + i] = at as u16;
-        at += AsEntry::SIZE + PeerEntry::SIZE * peers;
+        at += sizes[peers];
         i += 1;
     }
     if at != end {
@@ -59,12 +77,13 @@ pub(crate) fn fill_rows(book: &[u8], table: &mut [u16; PLACES]) -> Verdict
     ensures { λ r. ⌜ (r ≡ bodiesVerdict (now (book .entry)) 0 (segmentCount (now (book .entry)))) × (r ≡ Accepted → now (table .exit) ≡ offsetTable (now (book .entry))) ⌝ }
 {
     let count = segment::segment_count(book) as u8;
+    let sizes = entry_sizes();
     let mut at = segment::body_offset(book, 0);
     let mut k: u8 = 0;
     while k < count {
         let end = at + wide(length_within(book, k));
         let n = wide(count_within(book, k));
-        let v = fill_row(book, table, k, at, end, n);
+        let v = fill_row(book, &sizes, table, k, at, end, n);
         if let Verdict::Refused(_) = v {
             return v;
         }

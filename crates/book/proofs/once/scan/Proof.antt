@@ -17,55 +17,56 @@ use Rattle.book.proofs.once.scan.Statement.{statement}
 use Rattle.book.proofs.once.scan.Tie as tie
 
 abbrev Inv-loop : tie.InvT-loop
-Inv-loop book table₀ count start at₀ k₀ table at k = (k ≤ count) × (at ≤ length book) × (at ≡ bodyOffset book k) × (table ≡ rowsBelow book k) × (tooLong book ≡ any (isLong book) (range k (count - k))) × (bodiesVerdict book 0 (segmentCount book) ≡ bodiesVerdict book k (count - k))
+Inv-loop book table₀ count start sizes at₀ k₀ table at k = (k ≤ count) × (at ≤ length book) × (at ≡ bodyOffset book k) × (table ≡ rowsBelow book k) × (tooLong book ≡ any (isLong book) (range k (count - k))) × (bodiesVerdict book 0 (segmentCount book) ≡ bodiesVerdict book k (count - k))
 
 abbrev μ-loop : tie.MeasureT-loop
-μ-loop book table₀ count start at₀ k₀ table at k = count - k
+μ-loop book table₀ count start sizes at₀ k₀ table at k = count - k
 
 loop-holds : tie.Need-loop-holds Inv-loop μ-loop
 unfolding rowsBelow
 loop-holds c =
-    let z = c .before .pre .0 in
-    (omega arith, front-starts _ z, z .first, c .before .pre .1, long-all _ _ (z .all), bodies-first _ _ 0 (z .all))
+    let z = c .before .before .pre .0 in
+    (omega arith, front-starts _ z, z .first, c .before .before .pre .1, long-all _ _ (z .all), bodies-first _ _ 0 (z .all))
 
 count-within-requires : tie.Need-count-within-requires Inv-loop μ-loop
-count-within-requires c κs = front-heads _ (c .before .before .before .pre .0) _ (c .loop-test .taken)
+count-within-requires c κs = front-heads _ (c .before .before .before .before .pre .0) _ (c .loop-test .taken)
 
 returns : tie.Need-returns Inv-loop μ-loop
-returns c q = not-both q refl
+returns c = λ q. not-both q refl
 
 length-within-requires : tie.Need-length-within-requires Inv-loop μ-loop
-length-within-requires c κs = front-heads _ (c .before .before .before .before .before .before .pre .0) _ (c .before .before .before .loop-test .taken)
+length-within-requires c κs = front-heads _ (c .before .before .before .before .before .before .before .pre .0) _ (c .before .before .before .loop-test .taken)
 
 returns-2 : tie.Need-returns-2 Inv-loop μ-loop
-returns-2 c q = not-both q refl
+returns-2 c = λ q. not-both q refl
 
 fill-row-requires : tie.Need-fill-row-requires Inv-loop μ-loop
-fill-row-requires c κs = front-body _ (c .before .before .before .before .before .before .before .before .before .before .pre .0) _ (c .before .before .before .before .before .before .before .loop-test .taken) (c .before .before .before .before .if1 .left) (omega arith) (c .before .if2 .left)
+fill-row-requires c κs = (front-body _ (c .before .before .before .before .before .before .before .before .before .before .before .before .pre .0) _ (c .before .before .before .before .before .before .before .before .loop-test .taken) (c .before .before .before .before .before .if1 .left) (omega arith) (c .before .before .if2 .left), c .before .before .before .before .before .before .before .before .before .before .entry-sizes .ensures)
 
 returns-3 : tie.Need-returns-3 Inv-loop μ-loop
-returns-3 c q = not-both q refl
+returns-3 c = λ q. not-both q refl
 
 loop-again : tie.Need-loop-again Inv-loop μ-loop
 loop-again c =
-    let l = c .before .before .before .before .before .before .before .before .before .before .before in
-    let test = c .before .before .before .before .before .before .before .before .before .before .loop-test .taken in
-    let count = c .before .before .before .before .before .before .before .before .wide .ensures .0 ∙ c .before .before .before .before .before .before .before .before .before .count-within .ensures in
-    let size = c .before .before .before .before .before .wide2 .ensures .0 ∙ c .before .before .before .before .before .before .length-within .ensures in
+    let l = c .before .before .before .before .before .before .before .before .before .before .before .before in
+    let test = c .before .before .before .before .before .before .before .before .before .before .before .loop-test .taken in
+    let count = c .before .before .before .before .before .before .before .before .before .wide .ensures .0 ∙ c .before .before .before .before .before .before .before .before .before .before .count-within .ensures in
+    let size = c .before .before .before .before .before .before .wide2 .ensures .0 ∙ c .before .before .before .before .before .before .before .length-within .ensures in
     let e = c .enum-told2 .given .1 in
     let says = body-says _ 0 _ (l .loop .inv .2) size count (c .before .before .fill-row .ensures .0) in (
       omega arith,
-      c .before .before .before .before .if2 .left,
+      c .before .before .before .before .before .if2 .left,
       body-next _ _ (l .loop .inv .2) size,
       rows-step _ _ (l .loop .inv .2) count (l .loop .inv .3) (c .before .before .fill-row .ensures .1 e),
-      l .loop .inv .4 ∙ any-next _ _ _ test (not-long _ _ count (c .before .before .before .before .before .before .before .if1 .left)),
+      l .loop .inv .4 ∙ any-next _ _ _ test (not-long _ _ count (c .before .before .before .before .before .before .before .before .if1 .left)),
       l .loop .inv .5 ∙ bodies-next _ _ _ test (says ∙ e),
     )
 
 returns-4 : tie.Need-returns-4 Inv-loop μ-loop
-returns-4 c q =
+returns-4 c =
+    λ q.
     let i = c .before .loop .inv in
-    let z = c .before .before .before .pre .0 in
+    let z = c .before .before .before .before .pre .0 in
     (passed-book _ z (c .loop-test .left) (i .0) (i .2) (eqb-true _ _ q) (i .4) (i .5), rows-all _ (i .3) (omega (arith, z .all)))
 
 pub scan-spec : {M : Type 1} → statement M
@@ -74,6 +75,7 @@ scan-spec =
     (tie.spec
     Inv-loop
     μ-loop
+    (λ c κs. search needs)
     loop-holds
     count-within-requires
     (λ c κs. search needs)

@@ -13,49 +13,49 @@ use Rattle.book.proofs.rows.fill_rows.Statement.{statement}
 use Rattle.book.proofs.rows.fill_rows.Tie as tie
 
 abbrev Inv-loop : tie.InvT-loop
-Inv-loop book table₀ count at₀ k₀ table at k = (k ≤ count) × (at < 2 ^ 21 + 65536 * k) × (at ≡ bodyOffset book k) × (table ≡ rowsBelow book k) × (bodiesVerdict book 0 (segmentCount book) ≡ bodiesVerdict book k (count - k))
+Inv-loop book table₀ count sizes at₀ k₀ table at k = (k ≤ count) × (at < 2 ^ 21 + 65536 * k) × (at ≡ bodyOffset book k) × (table ≡ rowsBelow book k) × (bodiesVerdict book 0 (segmentCount book) ≡ bodiesVerdict book k (count - k))
 
 abbrev μ-loop : tie.MeasureT-loop
-μ-loop book table₀ count at₀ k₀ table at k = count - k
+μ-loop book table₀ count sizes at₀ k₀ table at k = count - k
 
 loop-holds : tie.Need-loop-holds Inv-loop μ-loop
 unfolding rowsBelow
-loop-holds c = (omega arith, omega arith, c .body-offset .ensures .0, c .before .before .before .pre .1, bodies-first _ _ 0 (c .before .segment-count .ensures .0))
+loop-holds c = (omega arith, omega arith, c .body-offset .ensures .0, c .before .before .before .before .pre .1, bodies-first _ _ 0 (c .before .before .segment-count .ensures .0))
 
 length-within-requires : tie.Need-length-within-requires Inv-loop μ-loop
-length-within-requires c κs = heads-inside _ (c .before .before .before .before .before .pre .0) _ (rw (c .before .before .before .segment-count .ensures .0) at (c .loop-test .taken))
+length-within-requires c κs = heads-inside _ (c .before .before .before .before .before .before .pre .0) _ (rw (c .before .before .before .before .segment-count .ensures .0) at (c .loop-test .taken))
 
 count-within-requires : tie.Need-count-within-requires Inv-loop μ-loop
-count-within-requires c κs = heads-inside _ (c .before .before .before .before .before .before .before .pre .0) _ (rw (c .before .before .before .before .before .segment-count .ensures .0) at (c .before .before .loop-test .taken))
+count-within-requires c κs = heads-inside _ (c .before .before .before .before .before .before .before .before .pre .0) _ (rw (c .before .before .before .before .before .before .segment-count .ensures .0) at (c .before .before .loop-test .taken))
 
 fill-row-requires : tie.Need-fill-row-requires Inv-loop μ-loop
-fill-row-requires c κs = body-fits _ (c .before .before .before .before .before .before .before .before .before .before .pre .0) _ (rw (c .before .before .before .before .before .before .before .before .segment-count .ensures .0) at (c .before .before .before .before .before .loop-test .taken)) (c .before .before .before .before .before .before .loop .inv .2) (c .before .before .before .wide .ensures .0 ∙ c .before .before .before .before .length-within .ensures) (c .before .wide2 .ensures .0 ∙ c .before .before .count-within .ensures)
+fill-row-requires c κs = (body-fits _ (c .before .before .before .before .before .before .before .before .before .before .before .before .pre .0) _ (rw (c .before .before .before .before .before .before .before .before .before .before .segment-count .ensures .0) at (c .before .before .before .before .before .before .loop-test .taken)) (c .before .before .before .before .before .before .before .loop .inv .2) (c .before .before .before .before .wide .ensures .0 ∙ c .before .before .before .before .before .length-within .ensures) (c .before .before .wide2 .ensures .0 ∙ c .before .before .before .count-within .ensures), c .before .before .before .before .before .before .before .before .before .entry-sizes .ensures)
 
 returns : tie.Need-returns Inv-loop μ-loop
 returns c =
-    let l = c .before .before .before .before .before .before .before .before .before in
+    let l = c .before .before .before .before .before .before .before .before .before .before in
     let e = c .enum-told .given .1 in
-    let says = body-says _ 0 _ (l .loop .inv .2) (c .before .before .before .before .before .before .wide .ensures .0 ∙ c .before .before .before .before .before .before .before .length-within .ensures) (c .before .before .before .before .wide2 .ensures .0 ∙ c .before .before .before .before .before .count-within .ensures) (c .before .before .fill-row .ensures .0) in
-    (sym (l .loop .inv .4 ∙ bodies-refused _ _ _ _ (c .before .before .before .before .before .before .before .before .loop-test .taken) (says ∙ e) ∙ sym e), λ q. not-accepted (sym e ∙ q))
+    let says = body-says _ 0 _ (l .loop .inv .2) (c .before .before .before .before .before .before .before .wide .ensures .0 ∙ c .before .before .before .before .before .before .before .before .length-within .ensures) (c .before .before .before .before .before .wide2 .ensures .0 ∙ c .before .before .before .before .before .before .count-within .ensures) (c .before .before .fill-row .ensures .0) in
+    (sym (l .loop .inv .4 ∙ bodies-refused _ _ _ _ (c .before .before .before .before .before .before .before .before .before .loop-test .taken) (says ∙ e) ∙ sym e), λ q. not-accepted (sym e ∙ q))
 
 loop-again : tie.Need-loop-again Inv-loop μ-loop
 loop-again c =
-    let l = c .before .before .before .before .before .before .before .before .before in
-    let size = c .before .before .before .before .before .before .wide .ensures .0 ∙ c .before .before .before .before .before .before .before .length-within .ensures in
-    let count = c .before .before .before .before .wide2 .ensures .0 ∙ c .before .before .before .before .before .count-within .ensures in
+    let l = c .before .before .before .before .before .before .before .before .before .before in
+    let size = c .before .before .before .before .before .before .before .wide .ensures .0 ∙ c .before .before .before .before .before .before .before .before .length-within .ensures in
+    let count = c .before .before .before .before .before .wide2 .ensures .0 ∙ c .before .before .before .before .before .before .count-within .ensures in
     let e = c .enum-told2 .given .1 in
     let says = body-says _ 0 _ (l .loop .inv .2) size count (c .before .before .fill-row .ensures .0) in (
       omega arith,
       omega arith,
       body-next _ _ (l .loop .inv .2) size,
       rows-step _ _ (l .loop .inv .2) count (l .loop .inv .3) (c .before .before .fill-row .ensures .1 e),
-      l .loop .inv .4 ∙ bodies-next _ _ _ (c .before .before .before .before .before .before .before .before .loop-test .taken) (says ∙ e),
+      l .loop .inv .4 ∙ bodies-next _ _ _ (c .before .before .before .before .before .before .before .before .before .loop-test .taken) (says ∙ e),
     )
 
 returns-2 : tie.Need-returns-2 Inv-loop μ-loop
 returns-2 c =
     let l = c .before in
-    (sym (l .loop .inv .4 ∙ bodies-done _ _ _ (c .loop-test .left)), λ q. rows-all _ (l .loop .inv .3) (omega (arith, c .before .before .before .segment-count .ensures .0)))
+    (sym (l .loop .inv .4 ∙ bodies-done _ _ _ (c .loop-test .left)), λ q. rows-all _ (l .loop .inv .3) (omega (arith, c .before .before .before .before .segment-count .ensures .0)))
 
 pub fill-rows-spec : {M : Type 1} → statement M
 fill-rows-spec =
@@ -65,6 +65,7 @@ fill-rows-spec =
     μ-loop
     (λ c κs. search needs)
     (λ c. search needs)
+    (λ c κs. search needs)
     (λ c κs. search needs)
     loop-holds
     length-within-requires
