@@ -9,3 +9,7 @@ pub mod Words
 pub mod Keys
 pub mod Caching
 pub mod Chains
+pub mod Coding
+pub mod KeyLaws
+pub mod KeyForms
+pub mod Ranking

@@ -3,3 +3,5 @@ pub mod Sort
 pub mod Records
 pub mod Order
 pub mod Cache
+pub mod Keys
+pub mod Ranks
