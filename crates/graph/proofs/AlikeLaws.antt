@@ -2,6 +2,7 @@
 -- Assumes nothing.
 use Prim.Native.Nat.{ℕ, zero, suc, _+_, _-_, _*_, _^_, _≤_, _<_}
 use native.Mathlib.Decide.{ℕ-discrete}
+use native.Mathlib.Nat.{add-assoc}
 use native.Mathlib.Omega.{arith}
 use mathlib.Core.Path.{_≡_, refl, sym, ap, ap₂, _∙_}
 use mathlib.Core.Bool.{Bool, true, false, _&&_}
@@ -26,7 +27,7 @@ use Rattle.book.proofs.Tables.{table-at}
 use Rattle.equal.proofs.Sameness.{repeats, repeats-is}
 use Rattle.graph.specs.Leaving.{entryCount}
 use Rattle.graph.specs.Ready.{Ready}
-use Rattle.graph.specs.Alike.{headWordAt, macByteAt}
+use Rattle.graph.specs.Alike.{headWordAt, lastWordAt}
 use Rattle.graph.proofs.LookupReads.{count-read}
 
 -- ---- every offset of the table has an entry's bytes after it in the book
@@ -70,6 +71,20 @@ pub head-within : (b : List ℕ) → verdict b ≡ Accepted → (k : ℕ) → k 
 unfolding wholeLength headOffset
 head-within b ok k h = let w = accepted b ok .whole in omega arith
 
+-- numbers in a part of the book
+module _ (x b : List ℕ) (o n : ℕ) (same : (j : ℕ) → j < n → getD b (o + j) 0 ≡ getD x j 0) where
+  two-in : (i : ℕ) → i + 2 ≤ n → be16 b (o + i) ≡ be16 x i
+  unfolding be16
+  two-in i h = rw (add-assoc o i 1, same i (omega arith), same (i + 1) (omega arith))
+
+  four-in : (i : ℕ) → i + 4 ≤ n → be32 b (o + i) ≡ be32 x i
+  unfolding be32
+  four-in i h = rw (add-assoc o i 2, two-in i (omega arith), two-in (i + 2) (omega arith))
+
+  eight-in : (i : ℕ) → i + 8 ≤ n → be64 b (o + i) ≡ be64 x i
+  unfolding be64
+  eight-in i h = rw (add-assoc o i 4, four-in i (omega arith), four-in (i + 4) (omega arith))
+
 module _ (b t : List ℕ) (r : Ready b t) where
   book : AcceptedBook b
   book = accepted b (r .ok)
@@ -98,12 +113,15 @@ module _ (b t : List ℕ) (r : Ready b t) where
           let e : maxEntries * k ≡ maxEntries * k + 0 = omega arith in
           ap (λ u. getD u (maxEntries * k) 0) (r .table) ∙ ap (λ j. getD (offsetTable b) j 0) e ∙ table-at b book k 0 h entries ∙ start
 
-      mac-body : macByteAt b t k ≡ getD (segmentAt b k .body) 24 0
-      unfolding macByteAt segmentAt
-      mac-body =
-          ap (λ m. getD b (m + 24) 0) place
-          ∙ sym (getD-drop (bodyOffset b k) b 24 0)
-          ∙ sym (getD-take (bodyLengthAt b k) (drop (bodyOffset b k) b) 24 0 (omega (arith, size)))
+      in-body : (i : ℕ) → i < entrySize → getD b (bodyOffset b k + i) 0 ≡ getD (segmentAt b k .body) i 0
+      unfolding segmentAt
+      in-body i l =
+          sym (getD-drop (bodyOffset b k) b i 0)
+          ∙ sym (getD-take (bodyLengthAt b k) (drop (bodyOffset b k) b) i 0 (omega (arith, size)))
+
+      last-body : lastWordAt b t k ≡ be64 (segmentAt b k .body) 17
+      unfolding lastWordAt
+      last-body = ap (λ m. be64 b (m + 17)) place ∙ eight-in (segmentAt b k .body) b (bodyOffset b k) entrySize in-body 17 (omega arith)
 
       body-some : 0 < length (segmentAt b k .body)
       unfolding segmentAt
@@ -238,40 +256,40 @@ module _ (b t : List ℕ) (r : Ready b t) (k : ℕ) (h : k < segmentCount b) (so
           above zero d = absurd (d refl)
           above (suc n) d = omega arith
 
-  alike : (j : ℕ) → j < segmentCount b → sameSegment (segmentAt b k) (segmentAt b j) ≡ true → (headWordAt b j ≡ headWordAt b k) × (macByteAt b t j ≡ macByteAt b t k)
+  alike : (j : ℕ) → j < segmentCount b → sameSegment (segmentAt b k) (segmentAt b j) ≡ true → (headWordAt b j ≡ headWordAt b k) × (lastWordAt b t j ≡ lastWordAt b t k)
   alike j l q =
       let p = same-parts (segmentAt b k) (segmentAt b j) q in (
         sym (same-word b k j (unfold segmentAt in p .0) (unfold segmentAt in p .1) (same-count b (accepted b (r .ok)) k j h l (p .2))),
-        mac-body b t r j l (same-some j l (p .2)) ∙ ap (λ x. getD x 24 0) (sym (p .2)) ∙ sym (mac-body b t r k h some),
+        last-body b t r j l (same-some j l (p .2)) ∙ ap (λ x. be64 x 17) (sym (p .2)) ∙ sym (last-body b t r k h some),
       )
 
   -- positions that are passed over
-  module _ {word mac : ℕ} (ew : word ≡ headWordAt b k) (em : mac ≡ macByteAt b t k) where
-    other : (j : ℕ) → j < k → (headWordAt b j ≡ word → macByteAt b t j ≡ mac → ⊥) → repeats b k j ≡ false
+  module _ {word last : ℕ} (ew : word ≡ headWordAt b k) (em : last ≡ lastWordAt b t k) where
+    other : (j : ℕ) → j < k → (headWordAt b j ≡ word → lastWordAt b t j ≡ last → ⊥) → repeats b k j ≡ false
     other j l d = repeats-is b k j l ∙ go (sameSegment (segmentAt b k) (segmentAt b j)) refl
       where
         go : (x : Bool) → sameSegment (segmentAt b k) (segmentAt b j) ≡ x → x ≡ false
         go true q = let w = alike j (omega arith) q in absurd (d (w .0 ∙ sym ew) (w .1 ∙ sym em))
         go false q = refl
 
-    pub alike-skipped : (i j : ℕ) → i ≤ j → j ≤ k → ((m : ℕ) → i ≤ m → m < j → headWordAt b m ≡ word → macByteAt b t m ≡ mac → ⊥)
+    pub alike-skipped : (i j : ℕ) → i ≤ j → j ≤ k → ((m : ℕ) → i ≤ m → m < j → headWordAt b m ≡ word → lastWordAt b t m ≡ last → ⊥)
         → any (repeats b k) (range i (segmentCount b - i)) ≡ any (repeats b k) (range j (segmentCount b - j))
     alike-skipped i j p q none = skipped b k h i j p q (λ m a l. other m (omega arith) (none m a l))
 
 -- the positions from an earlier one up to j, and j itself, differ
-module _ (b t : List ℕ) (from j : ℕ) {word mac : ℕ} (none : (i : ℕ) → from ≤ i → i < j → headWordAt b i ≡ word → macByteAt b t i ≡ mac → ⊥) where
-  more : (headWordAt b j ≡ word → macByteAt b t j ≡ mac → ⊥) → (i : ℕ) → from ≤ i → i < j + 1 → headWordAt b i ≡ word → macByteAt b t i ≡ mac → ⊥
+module _ (b t : List ℕ) (from j : ℕ) {word last : ℕ} (none : (i : ℕ) → from ≤ i → i < j → headWordAt b i ≡ word → lastWordAt b t i ≡ last → ⊥) where
+  more : (headWordAt b j ≡ word → lastWordAt b t j ≡ last → ⊥) → (i : ℕ) → from ≤ i → i < j + 1 → headWordAt b i ≡ word → lastWordAt b t i ≡ last → ⊥
   more d i l h = go (ltb i j) refl
     where
-      go : (x : Bool) → ltb i j ≡ x → headWordAt b i ≡ word → macByteAt b t i ≡ mac → ⊥
+      go : (x : Bool) → ltb i j ≡ x → headWordAt b i ≡ word → lastWordAt b t i ≡ last → ⊥
       go true e p q = none i l (ltb-true _ _ e) p q
       go false e p q =
           let g : j ≤ i = ltb-false _ _ e in
           let s : i ≡ j = omega arith in
-          d (sym (ap (headWordAt b) s) ∙ p) (sym (ap (macByteAt b t) s) ∙ q)
+          d (sym (ap (headWordAt b) s) ∙ p) (sym (ap (lastWordAt b t) s) ∙ q)
 
-  pub other-word : {x : ℕ} → x ≡ headWordAt b j → (x ≡ word → ⊥) → (i : ℕ) → from ≤ i → i < j + 1 → headWordAt b i ≡ word → macByteAt b t i ≡ mac → ⊥
+  pub other-word : {x : ℕ} → x ≡ headWordAt b j → (x ≡ word → ⊥) → (i : ℕ) → from ≤ i → i < j + 1 → headWordAt b i ≡ word → lastWordAt b t i ≡ last → ⊥
   other-word e d = more (λ p q. d (e ∙ p))
 
-  pub other-mac : {x : ℕ} → x ≡ macByteAt b t j → (x ≡ mac → ⊥) → (i : ℕ) → from ≤ i → i < j + 1 → headWordAt b i ≡ word → macByteAt b t i ≡ mac → ⊥
-  other-mac e d = more (λ p q. d (e ∙ q))
+  pub other-last : {x : ℕ} → x ≡ lastWordAt b t j → (x ≡ last → ⊥) → (i : ℕ) → from ≤ i → i < j + 1 → headWordAt b i ≡ word → lastWordAt b t i ≡ last → ⊥
+  other-last e d = more (λ p q. d (e ∙ q))

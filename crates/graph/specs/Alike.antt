@@ -11,6 +11,6 @@ use Rattle.spec.specs.Book.{headOffset}
 unfoldable pub headWordAt : List ℕ → ℕ → ℕ
 headWordAt b k = be64 b (headOffset k)
 
--- the last byte of the MAC of the first entry of the segment at k, by the table of offsets
-unfoldable pub macByteAt : List ℕ → List ℕ → ℕ → ℕ
-macByteAt b t k = getD b (getD t (maxEntries * k) 0 + 24) 0
+-- eight bytes of the first entry of the segment at k, by the table of offsets: the last before its number of peers
+unfoldable pub lastWordAt : List ℕ → List ℕ → ℕ → ℕ
+lastWordAt b t k = be64 b (getD t (maxEntries * k) 0 + 17)

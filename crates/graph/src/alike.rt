@@ -1,5 +1,5 @@
 // The first of equal segments, by the table of entry offsets: few segments have the timestamp, id and entry count of
-// another and a byte of its first MAC, so that few are compared.
+// another and the last bytes of its first entry, so that few are compared.
 ghost use mathlib.Core.Path.{_≡_};
 ghost use mathlib.Core.Bool.{false};
 ghost use Prim.Native.Nat.{ℕ, _+_, _-_, _≤_, _<_};
@@ -10,7 +10,7 @@ ghost use Rattle.spec.specs.Book.{segments, segmentAt, segmentCount, verdict};
 ghost use Rattle.spec.specs.Edges.{isFirst, sameSegment};
 ghost use Rattle.graph.specs.Leaving.{entryCount};
 ghost use Rattle.graph.specs.Ready.{Ready};
-ghost use Rattle.graph.specs.Alike.{headWordAt, macByteAt};
+ghost use Rattle.graph.specs.Alike.{headWordAt, lastWordAt};
 use crate::edges;
 use crate::edges::PLACES;
 use spec::Head;
@@ -26,37 +26,37 @@ fn head_word(book: &[u8], k: usize) -> u64
     edges::word_within(book, Sizes::SIZE + Head::SIZE * k)
 }
 
-// The last byte of the MAC of a body's first entry, past the entry's start.
-const MAC: usize = 24;
+// Where the last bytes of an entry before its peers' number stand, past its start: of its egress, units and MAC.
+const LAST: usize = 17;
 
-// Where the segment has no entry, the table has 0, and a byte of the book is as good.
-fn mac_byte(book: &[u8], table: &[u16; PLACES], k: usize) -> u8
+// Where the segment has no entry, the table has 0, and bytes of the book are as good.
+fn last_word(book: &[u8], table: &[u16; PLACES], k: usize) -> u64
     requires { ⌜ Ready (now book) (now table) ⌝ }
     requires { ⌜ k < segmentCount (now book) ⌝ }
     requires { ⌜ entrySize ≤ length (now book) ⌝ }
-    ensures { λ r. ⌜ r ≡ macByteAt (now (book .entry)) (now (table .entry)) k ⌝ }
+    ensures { λ r. ⌜ r ≡ lastWordAt (now (book .entry)) (now (table .entry)) k ⌝ }
 {
-    book[edges::wide(table[Limits::ENTRIES * k]) + MAC]
+    edges::word_within(book, edges::wide(table[Limits::ENTRIES * k]) + LAST)
 }
 
-// From a position on, the first below `end` that has the number and the byte, or `end`.
+// From a position on, the first below `end` that has both numbers, or `end`.
 fn next_alike(
     book: &[u8],
     table: &[u16; PLACES],
     word: u64,
-    mac: u8,
+    last: u64,
     from: usize,
     end: usize,
 ) -> usize
     requires { ⌜ Ready (now book) (now table) ⌝ }
     requires { ⌜ end < segmentCount (now book) ⌝ }
     requires { ⌜ entrySize ≤ length (now book) ⌝ }
-    ensures { λ r. ⌜ (from ≤ r) × (r ≤ from + (end - from)) × ((i : ℕ) → from ≤ i → i < r → headWordAt (now (book .entry)) i ≡ word → macByteAt (now (book .entry)) (now (table .entry)) i ≡ mac → ⊥) ⌝ }
+    ensures { λ r. ⌜ (from ≤ r) × (r ≤ from + (end - from)) × ((i : ℕ) → from ≤ i → i < r → headWordAt (now (book .entry)) i ≡ word → lastWordAt (now (book .entry)) (now (table .entry)) i ≡ last → ⊥) ⌝ }
 {
     let mut j = from;
     while j < end {
         if head_word(book, j) == word {
-            if mac_byte(book, table, j) == mac {
+            if last_word(book, table, j) == last {
                 return j;
             }
         }
@@ -67,9 +67,10 @@ fn next_alike(
 
 // Where those of its kind begin: a segment of the other kind is no equal.
 fn kind_start(book: &[u8], k: u8) -> usize
+    requires { ⌜ verdict (now book) ≡ Accepted ⌝ }
     ensures { λ r. ⌜ (r ≤ k) × ((i : ℕ) → i < r → sameSegment (segmentAt (now (book .entry)) k) (segmentAt (now (book .entry)) i) ≡ false) ⌝ }
 {
-    let cores = edges::wide(segment::sizes(book).cores);
+    let cores = edges::wide(edges::sizes_within(book).cores);
     if (k as usize) < cores {
         return 0;
     }
@@ -85,13 +86,13 @@ pub(crate) fn is_first(book: &[u8], table: &[u16; PLACES], k: u8) -> bool
 {
     let end = k as usize;
     let word = head_word(book, end);
-    let mac = mac_byte(book, table, end);
-    let mut j = next_alike(book, table, word, mac, kind_start(book, k), end);
+    let last = last_word(book, table, end);
+    let mut j = next_alike(book, table, word, last, kind_start(book, k), end);
     while j < end {
         if equal::same_segment(book, k, j as u8) {
             return false;
         }
-        j = next_alike(book, table, word, mac, j + 1, end);
+        j = next_alike(book, table, word, last, j + 1, end);
     }
     true
 }

@@ -73,7 +73,7 @@ fn edge_of(book: &[u8], table: &[u16; PLACES], id: SolutionEdge) -> Found
     requires { ⌜ Ready (now book) (now table) ⌝ }
     ensures { λ r. ⌜ foundEdges r ≡ identifiedIn (now (book .entry)) id ⌝ }
 {
-    let sizes = segment::sizes(book);
+    let sizes = edges::sizes_within(book);
     if sizes.cores + sizes.others <= (id.position as u16) {
         return Found::Nothing;
     }

@@ -10,7 +10,7 @@ ghost use Rattle.spec.specs.declared.Vertex.the-variants.{AS};
 ghost use Rattle.spec.specs.declared.Verdict.the-variants.{Accepted};
 ghost use Rattle.spec.specs.Limits.{maxSegments, maxEntries, entrySize, peerSize};
 ghost use Rattle.spec.specs.Octets.{be16, be32, be64};
-ghost use Rattle.spec.specs.Book.{segmentAt, segmentCount, verdict, isdAsnAt, peerCount, peerEntryAt, peerOffset};
+ghost use Rattle.spec.specs.Book.{segmentAt, segmentCount, sizesAt, verdict, isdAsnAt, peerCount, peerEntryAt, peerOffset};
 ghost use Rattle.spec.specs.Edges.{sameAs, sameVertex, asOf, leafAs, inConstruction};
 ghost use Rattle.graph.specs.Lookup.{between, leavingOf, foundEdges};
 ghost use Rattle.graph.specs.Leaving.{entryCount, peerCountOf, linkOf, hasLink, asUp, peerUp};
@@ -163,11 +163,24 @@ fn as_within(book: &[u8], at: usize) -> IsdAsn
 
 // ---- entries
 
+// The sizes of an accepted book, read with no test of its end.
+pub(crate) fn sizes_within(book: &[u8]) -> Sizes
+    requires { ⌜ verdict (now book) ≡ Accepted ⌝ }
+    ensures { λ r. ⌜ r ≡ sizesAt (now (book .entry)) ⌝ }
+{
+    Sizes {
+        cores: pair_within(book, 0),
+        others: pair_within(book, 2),
+        bodies: half_within(book, 4),
+    }
+}
+
 // The segment at position k is a core segment.
 pub(crate) fn is_core(book: &[u8], k: u8) -> bool
+    requires { ⌜ verdict (now book) ≡ Accepted ⌝ }
     ensures { λ r. ⌜ r ≡ segmentAt (now (book .entry)) k .core ⌝ }
 {
-    (k as u16) < segment::sizes(book).cores
+    (k as u16) < sizes_within(book).cores
 }
 
 pub(crate) fn entry_count(book: &[u8], k: u8) -> usize

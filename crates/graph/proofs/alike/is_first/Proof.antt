@@ -15,13 +15,13 @@ use Rattle.graph.proofs.alike.is_first.Statement.{statement}
 use Rattle.graph.proofs.alike.is_first.Tie as tie
 
 abbrev Inv-loop : tie.InvT-loop
-Inv-loop book table k end word mac j₀ j = (j ≤ end) × (isFirst (segments book) (segmentAt book k) ≡ not (any (repeats book k) (range j (segmentCount book - j))))
+Inv-loop book table k end word last j₀ j = (j ≤ end) × (isFirst (segments book) (segmentAt book k) ≡ not (any (repeats book k) (range j (segmentCount book - j))))
 
 abbrev μ-loop : tie.MeasureT-loop
-μ-loop book table k end word mac j₀ j = end - j
+μ-loop book table k end word last j₀ j = end - j
 
-mac-byte-requires : tie.Need-mac-byte-requires Inv-loop μ-loop
-mac-byte-requires c κs = let p = c .before .before .pre in (p .0, (p .1 .0, some-bytes _ _ (p .0) _ (p .1 .0) (p .1 .1)))
+last-word-requires : tie.Need-last-word-requires Inv-loop μ-loop
+last-word-requires c κs = let p = c .before .before .pre in (p .0, (p .1 .0, some-bytes _ _ (p .0) _ (p .1 .0) (p .1 .1)))
 
 next-alike-requires : tie.Need-next-alike-requires Inv-loop μ-loop
 next-alike-requires c κs = let p = c .before .before .before .before .pre in (p .0, (p .1 .0, some-bytes _ _ (p .0) _ (p .1 .0) (p .1 .1)))
@@ -35,7 +35,7 @@ loop-holds c =
       first-all _ _
           ∙ ap not
           (kind-skipped _ _ (p .1 .0) _ (s .0) (s .1)
-          ∙ alike-skipped _ _ (p .0) _ (p .1 .0) (p .1 .1) (c .before .before .before .head-word .ensures) (c .before .before .mac-byte .ensures) _ _ (n .0) (omega (arith, s .0)) (n .2)),
+          ∙ alike-skipped _ _ (p .0) _ (p .1 .0) (p .1 .1) (c .before .before .before .head-word .ensures) (c .before .before .last-word .ensures) _ _ (n .0) (omega (arith, s .0)) (n .2)),
     )
 
 cast-same-segment : tie.Need-cast-same-segment Inv-loop μ-loop
@@ -65,7 +65,7 @@ loop-again c =
       c .before .before .before .before .loop .inv .1
           ∙ ap not
           (any-next _ _ _ (omega (arith, p .1 .0)) r
-          ∙ alike-skipped _ _ (p .0) _ (p .1 .0) (p .1 .1) (c .before .before .before .before .before .before .before .before .head-word .ensures) (c .before .before .before .before .before .before .before .mac-byte .ensures) _ _ (n .0) (omega arith) (n .2)),
+          ∙ alike-skipped _ _ (p .0) _ (p .1 .0) (p .1 .1) (c .before .before .before .before .before .before .before .before .head-word .ensures) (c .before .before .before .before .before .before .before .last-word .ensures) _ _ (n .0) (omega arith) (n .2)),
     )
 
 returns-2 : tie.Need-returns-2 Inv-loop μ-loop
@@ -80,7 +80,7 @@ is-first-spec =
     Inv-loop
     μ-loop
     (λ c κs. search needs)
-    mac-byte-requires
+    last-word-requires
     (λ c κs. search needs)
     next-alike-requires
     loop-holds

@@ -12,7 +12,7 @@ returns : tie.Need-returns
 returns c = (omega arith, λ i h. absurd (omega arith))
 
 returns-2 : tie.Need-returns-2
-returns-2 c = (omega arith, kinds-differ _ _ _ (c .before .wide .ensures .0 ∙ cores-read _ (c .before .before .sizes .ensures)) (omega arith))
+returns-2 c = (omega arith, kinds-differ _ _ _ (c .before .wide .ensures .0 ∙ cores-read _ (c .before .before .sizes-within .ensures)) (omega arith))
 
 pub kind-start-spec : {M : Type 1} → statement M
 kind-start-spec =

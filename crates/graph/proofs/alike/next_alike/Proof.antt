@@ -1,19 +1,19 @@
--- `next_alike` meets its contract. The loop's invariant: no position passed has both the number and the byte.
+-- `next_alike` meets its contract. The loop's invariant: no position passed has both numbers.
 -- Assumes nothing.
 use Prim.Native.Nat.{ℕ, _+_, _-_, _≤_, _<_}
 use native.Mathlib.Omega.{arith}
 use mathlib.Core.Path.{_≡_}
 use mathlib.Core.Logic.{⊎-elim}
-use Rattle.graph.specs.Alike.{headWordAt, macByteAt}
-use Rattle.graph.proofs.AlikeLaws.{other-word, other-mac}
+use Rattle.graph.specs.Alike.{headWordAt, lastWordAt}
+use Rattle.graph.proofs.AlikeLaws.{other-word, other-last}
 use Rattle.graph.proofs.alike.next_alike.Statement.{statement}
 use Rattle.graph.proofs.alike.next_alike.Tie as tie
 
 abbrev Inv-loop : tie.InvT-loop
-Inv-loop book table word mac from end j₀ j = (from ≤ j) × (j ≤ from + (end - from)) × ((i : ℕ) → from ≤ i → i < j → headWordAt book i ≡ word → macByteAt book table i ≡ mac → ⊥)
+Inv-loop book table word last from end j₀ j = (from ≤ j) × (j ≤ from + (end - from)) × ((i : ℕ) → from ≤ i → i < j → headWordAt book i ≡ word → lastWordAt book table i ≡ last → ⊥)
 
 abbrev μ-loop : tie.MeasureT-loop
-μ-loop book table word mac from end j₀ j = end - j
+μ-loop book table word last from end j₀ j = end - j
 
 loop-holds : tie.Need-loop-holds Inv-loop μ-loop
 loop-holds c = (omega arith, omega arith, λ i a l. absurd (omega arith))
@@ -21,8 +21,8 @@ loop-holds c = (omega arith, omega arith, λ i a l. absurd (omega arith))
 head-word-requires : tie.Need-head-word-requires Inv-loop μ-loop
 head-word-requires c κs = let p = c .before .before .before .pre in (p .0 .ok, omega (arith, p .1 .0))
 
-mac-byte-requires : tie.Need-mac-byte-requires Inv-loop μ-loop
-mac-byte-requires c κs = let p = c .before .before .before .before .before .pre in (p .0, (omega (arith, p .1 .0), p .1 .1))
+last-word-requires : tie.Need-last-word-requires Inv-loop μ-loop
+last-word-requires c κs = let p = c .before .before .before .before .before .pre in (p .0, (omega (arith, p .1 .0), p .1 .1))
 
 returns : tie.Need-returns Inv-loop μ-loop
 returns c = c .before .before .before .before .before .loop .inv
@@ -37,7 +37,7 @@ loop-again : tie.Need-loop-again Inv-loop μ-loop
 loop-again c = (
   omega arith,
   omega arith,
-  ⊎-elim (λ x. other-mac _ _ _ _ (c .before .before .before .loop .inv .2) (x .1 .ensures) (x .2 .left)) (λ x. other-word _ _ _ _ (c .before .before .before .loop .inv .2) (c .before .head-word .ensures) (x .left)) (c .if1 .came),
+  ⊎-elim (λ x. other-last _ _ _ _ (c .before .before .before .loop .inv .2) (x .1 .ensures) (x .2 .left)) (λ x. other-word _ _ _ _ (c .before .before .before .loop .inv .2) (c .before .head-word .ensures) (x .left)) (c .if1 .came),
 )
 
 returns-2 : tie.Need-returns-2 Inv-loop μ-loop
@@ -51,7 +51,7 @@ next-alike-spec =
     μ-loop
     loop-holds
     head-word-requires
-    mac-byte-requires
+    last-word-requires
     returns
     add-j
     loop-less

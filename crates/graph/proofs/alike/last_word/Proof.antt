@@ -1,15 +1,15 @@
--- `mac_byte` meets its contract.
+-- `last_word` meets its contract.
 -- Assumes nothing.
 use native.Mathlib.Omega.{arith}
-use mathlib.Core.Path.{ap}
-use lib.ListN.{getD}
+use mathlib.Core.Path.{ap, _∙_}
 use Prim.Native.Nat.{_+_}
-use Rattle.graph.specs.Alike.{macByteAt}
+use Rattle.spec.specs.Octets.{be64}
+use Rattle.graph.specs.Alike.{lastWordAt}
 use Rattle.graph.proofs.LookupReads.{position-below}
 use Rattle.graph.proofs.AlikeLaws.{any-within}
 use borrow.Author.Needs.{needs}
-use Rattle.graph.proofs.alike.mac_byte.Statement.{statement}
-use Rattle.graph.proofs.alike.mac_byte.Tie as tie
+use Rattle.graph.proofs.alike.last_word.Statement.{statement}
+use Rattle.graph.proofs.alike.last_word.Tie as tie
 
 mul-wide : tie.Need-mul-wide
 mul-wide c = omega (arith, position-below _ _ (c .before .pre .0) _ (c .before .pre .1 .0))
@@ -20,15 +20,15 @@ mul-wide-2 c = omega (arith, position-below _ _ (c .before .pre .0) _ (c .before
 element-copy-out-wide : tie.Need-element-copy-out-wide
 element-copy-out-wide c = omega (arith, position-below _ _ (c .before .pre .0) _ (c .before .pre .1 .0))
 
-shared-slice-read-result : tie.Need-shared-slice-read-result
-shared-slice-read-result c = let p = c .before .before .before .before .pre in omega (arith, any-within _ _ (p .0) (p .1 .1) _ (c .before .wide .ensures .0))
+word-within-requires : tie.Need-word-within-requires
+word-within-requires c κs = let p = c .before .before .before .pre in omega (arith, any-within _ _ (p .0) (p .1 .1) _ (c .wide .ensures .0))
 
 returns : tie.Need-returns
-unfolding macByteAt
-returns c = ap (λ o. getD (c .before .before .before .before .args .book .now) (o + 24) 0) (c .before .wide .ensures .0)
+unfolding lastWordAt
+returns c = c .word-within .ensures ∙ ap (λ o. be64 (c .before .before .before .before .args .book .now) (o + 17)) (c .before .wide .ensures .0)
 
-pub mac-byte-spec : {M : Type 1} → statement M
-mac-byte-spec =
+pub last-word-spec : {M : Type 1} → statement M
+last-word-spec =
     tie.close
     (tie.spec
     mul-wide
@@ -36,5 +36,5 @@ mac-byte-spec =
     element-copy-out-wide
     (λ c κs. search needs)
     (λ c. search needs)
-    shared-slice-read-result
+    word-within-requires
     returns)
