@@ -43,7 +43,7 @@ PAGES = $(wildcard man/*.[1-8])
 lib:
 	rt staticlib combinator
 	mkdir -p build
-	tools/layout target/staticlib/libcombinator.a build/libcombinator.a
+	tools/align target/staticlib/libcombinator.a build/libcombinator.a
 
 # Only where they are missing; `make lib` and `rt check list` build them anew.
 build/libcombinator.a:

@@ -41,3 +41,13 @@ for n in (100, 0, 1, 2):
     show(sorted_first(table['PART'], n))
 print(hashlib.sha256(sorted_first(fill(4800), 300)).hexdigest())
 print(hashlib.sha256(sorted_first(fill(65600), 5000)).hexdigest())
+
+
+def plain(n):
+    return bytes(0 if i % 16 == 3 else b % 2 if i % 4 == 3 else b for i, b in enumerate(fill(n)))
+
+
+s = bytearray(plain(11200))
+print(hashlib.sha256(sorted_first(bytes(s), 700)).hexdigest())
+s[7] = 2
+print(hashlib.sha256(sorted_first(bytes(s), 700)).hexdigest())

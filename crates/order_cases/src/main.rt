@@ -815,10 +815,29 @@ fn mixed(i: usize) -> u8 {
     ((i % 4096 * 7919 + i / 16 % 8192 * 104729) / 61 % 3) as u8
 }
 
-fn fill(s: &mut [u8]) {
+// The same, as records that a key can be made of: zero is 0, and a direction 0 or 1.
+fn plain(i: usize) -> u8 {
+    let b = mixed(i);
+    if i % 16 == 3 {
+        return 0;
+    }
+    if i % 4 == 3 {
+        return b % 2;
+    }
+    b
+}
+
+fn byte_at(i: usize, all_plain: bool) -> u8 {
+    if all_plain {
+        return plain(i);
+    }
+    mixed(i)
+}
+
+fn fill(s: &mut [u8], all_plain: bool) {
     let mut i = 0;
     while i < s.len() {
-        s[i] = mixed(i);
+        s[i] = byte_at(i, all_plain);
         i += 1;
     }
 }
@@ -836,7 +855,7 @@ fn show_digest(s: &[u8]) {
 fn long() {
     let book = BOOK;
     let mut s = [0u8; 4800];
-    fill(&mut s);
+    fill(&mut s, false);
     order::sort(&book, &mut s, 300);
     show_digest(&s);
 }
@@ -845,8 +864,26 @@ fn long() {
 fn longest() {
     let book = BOOK;
     let mut s = [0u8; 65600];
-    fill(&mut s);
+    fill(&mut s, false);
     order::sort(&book, &mut s, 5000);
+    show_digest(&s);
+}
+
+// 700 records, which are sorted as keys; and with one among them of which no key can be made.
+fn long_plain() {
+    let book = BOOK;
+    let mut s = [0u8; 11200];
+    fill(&mut s, true);
+    order::sort(&book, &mut s, 700);
+    show_digest(&s);
+}
+
+fn long_but_one() {
+    let book = BOOK;
+    let mut s = [0u8; 11200];
+    fill(&mut s, true);
+    s[7] = 2;
+    order::sort(&book, &mut s, 700);
     show_digest(&s);
 }
 
@@ -860,4 +897,6 @@ fn main() {
     in_part(2);
     long();
     longest();
+    long_plain();
+    long_but_one();
 }
