@@ -48,8 +48,8 @@
  * There is no state: both functions may be called at the same time from any threads, each call with
  * an output of its own.
  *
- * A call needs at most COMBINATOR_STACK_SIZE bytes of stack: `driver stack` measured 74,907 for
- * combinator_list and 3,719 for combinator_assemble; the constant leaves room above that.
+ * A call needs at most COMBINATOR_STACK_SIZE bytes of stack: `driver stack` measured 71,943 for
+ * combinator_list and 3,751 for combinator_assemble; the constant leaves room above that.
  */
 #ifndef COMBINATOR_H
 #define COMBINATOR_H
