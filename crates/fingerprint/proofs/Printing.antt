@@ -71,7 +71,7 @@ inputs-least b at n m = go (ltb n m) refl
         let f : m ≡ min n m = omega arith in
         take-all (inputSize * n) (inputs b at m) (omega (arith, inputs-length b at m)) ∙ ap (inputs b at) f
 
-inputs-all : (b : List ℕ) (k : ℕ) → fingerprintInput (segmentAt b k) ≡ inputs b (bodyOffset b k) (entryCountAt b k)
+pub inputs-all : (b : List ℕ) (k : ℕ) → fingerprintInput (segmentAt b k) ≡ inputs b (bodyOffset b k) (entryCountAt b k)
 unfolding fingerprintInput segmentAt inputs
 inputs-all b k = refl
 

@@ -8,6 +8,7 @@ pub mod Comparing
 pub mod Words
 pub mod Keys
 pub mod Caching
+pub mod OneRoute
 pub mod Chains
 pub mod Coding
 pub mod KeyLaws
