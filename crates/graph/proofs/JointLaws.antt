@@ -47,6 +47,14 @@ module _ (k : ℕ) (v : Vertex) (w : IsdAsn) (j : Joint) where
   pub edge-joint : {l : List Edge} {e : Edge} → jointEdges k v w j ≡ l → j .found ≡ true → e ≡ jointEdge k v w j → (e ∷ []) ≡ l
   edge-joint p q r = ap (λ x. x ∷ []) r ∙ sym (joint-found q) ∙ p
 
+-- a vertex that is an AS
+pub from-as-end : {v : Vertex} {a : IsdAsn} {l : List Edge} (seg : Segment) (w : Vertex) → v ≡ AS a → l ≡ between seg (AS a) w → l ≡ between seg v w
+from-as-end seg w at p = p ∙ ap (λ x. between seg x w) (sym at)
+
+pub joint-at : (seg : Segment) (k : ℕ) (w : IsdAsn) (j : Joint) {v : Vertex} {a : IsdAsn} → v ≡ AS a → jointEdges k (AS a) w j ≡ between seg (AS a) (AS w)
+    → jointEdges k v w j ≡ between seg v (AS w)
+joint-at seg k w j at p = ap (λ x. jointEdges k x w j) at ∙ from-as-end seg (AS w) at p
+
 -- ---- as the code makes them
 
 abbrev joined : Bool → Bool → ℕ → ℕ → ℕ → Joint

@@ -3,28 +3,31 @@
 use Prim.Native.Nat.{ℕ, _+_, _-_, _≤_, _<_}
 use native.Mathlib.Omega.{arith}
 use mathlib.Core.Path.{_≡_, refl, sym, ap, ap₂, _∙_}
+use mathlib.Core.Logic.{_⊎_, inl, inr}
 use mathlib.Core.Bool.{Bool, true, false, _&&_, _||_, not}
 use mathlib.Core.List.{List, [], _∷_, _++_, map, flatMap, append-nil, append-assoc}
 use lib.Dec.{ltb, eqb}
 use borrow.Author.Tests.{ltb-true, ltb-false, lt-ltb, le-ltb, eqb-true, eqb-false, eq-eqb, ne-eqb}
 use Rattle.spec.specs.declared.IsdAsn.{IsdAsn}
-use Rattle.spec.specs.declared.Vertex.the-variants.{AS}
+use Rattle.spec.specs.declared.Vertex.{Vertex}
+use Rattle.spec.specs.declared.Vertex.the-variants.{AS, Peering}
 use Rattle.spec.specs.declared.Edge.{Edge}
 use Rattle.spec.specs.Basics.{if_then_else_, range}
 use Rattle.spec.specs.Book.{Segment, segments, segmentAt, segmentCount, cores}
-use Rattle.spec.specs.Edges.{sameAs, sameVertex, leafAs, isFirst}
+use Rattle.spec.specs.Edges.{sameAs, sameVertex, asOf, leafAs, edgeOf, isFirst}
 use Rattle.spec.specs.Records.{bit}
 use Rattle.graph.specs.declared.Found.{Found}
 use Rattle.graph.specs.declared.Found.the-variants.{Edge as FoundEdge, Nothing}
 use Rattle.graph.specs.Lookup.{between, leavingOf, foundEdges}
 use Rattle.graph.specs.Leaving.{entryCount, peerCountOf, asUp, peerUp, upsAt, leavingIn}
-use Rattle.graph.specs.Scan.{hasAs}
+use Rattle.graph.specs.Scan.{hasAs, coreEdgeFrom}
 use Rattle.graph.specs.Firsts.{firstAt}
 use Rattle.graph.specs.Prepared.{begins, arrives}
-use Rattle.graph.specs.Search.{overFirsts, pair, triple, pairsIn, triplesIn, acrossWith, chainsWith, chainsFrom, chainsIn, foundChains}
+use Rattle.graph.specs.Search.{isAs, endsAtAs, overFirsts, pair, triple, pairsIn, triplesIn, acrossWith, chainsWith, chainsFrom, chainsIn, foundChains}
 use Rattle.spec.proofs.Lists.{flatMap-append}
 use Rattle.spec.proofs.Membership.{not-both}
-use Rattle.graph.proofs.LookupReads.{other-leaf, none-arrives, none-leaves}
+use Rattle.graph.proofs.LookupLaws.{core-leaving}
+use Rattle.graph.proofs.LookupReads.{other-leaf, none-arrives, none-leaves, empty-leaving}
 use Rattle.graph.proofs.SearchLists.{range-turn}
 use Rattle.graph.proofs.SearchLaws.{over-split, over-none, from-arrived, from-onward}
 
@@ -122,6 +125,59 @@ found-edge r l g e q = sym e ∙ ap foundEdges q
 found-nothing : (r : Found) (l : List Edge) → foundEdges r ≡ l → r ≡ Nothing → l ≡ []
 unfolding foundEdges
 found-nothing r l e q = sym e ∙ ap foundEdges q
+
+-- ---- a core segment's edges
+
+firstEnds : List Edge → Bool
+firstEnds [] = true
+firstEnds (f ∷ _) = endsAtAs f
+
+core-leaves : (seg : Segment) → seg .core ≡ true → (v : Vertex) → (leavingOf v seg ≡ coreEdgeFrom seg v) ⊎ (leavingOf v seg ≡ [])
+core-leaves seg core v = go (eqb (entryCount seg) 0) refl
+  where
+    go : (t : Bool) → eqb (entryCount seg) 0 ≡ t → (leavingOf v seg ≡ coreEdgeFrom seg v) ⊎ (leavingOf v seg ≡ [])
+    go true q = inr (sym (empty-leaving seg {n = entryCount seg} refl (eqb-true _ _ q) v))
+    go false q = inl (core-leaving seg core (eqb-false _ _ q) v)
+
+from-ends : (seg : Segment) (v : Vertex) → firstEnds (coreEdgeFrom seg v) ≡ true
+unfolding coreEdgeFrom edgeOf endsAtAs isAs firstEnds
+from-ends seg v = go (sameVertex (AS (asOf seg 0)) v) (sameVertex (AS (leafAs seg)) v)
+  where
+    go : (x y : Bool)
+        → firstEnds
+        (if x then edgeOf seg (AS (asOf seg 0)) (AS (leafAs seg)) (entryCount seg - 1) 0 0 ∷ []
+        else if y then edgeOf seg (AS (leafAs seg)) (AS (asOf seg 0)) (entryCount seg - 1) 0 0 ∷ [] else [])
+        ≡ true
+    go true y = refl
+    go false true = refl
+    go false false = refl
+
+-- they end at an AS
+pub core-ends : (b : List ℕ) (k : ℕ) (v : Vertex) (r : Found) (f : Edge) → k < cores b → foundEdges r ≡ leavingOf v (segmentAt b k) → r ≡ FoundEdge f
+    → endsAtAs f ≡ true
+unfolding firstEnds
+core-ends b k v r f h p q = go (core-leaves (segmentAt b k) (core-at b k h) v)
+  where
+    at : leavingOf v (segmentAt b k) ≡ f ∷ []
+    at = found-edge r (leavingOf v (segmentAt b k)) f p q
+
+    go : (leavingOf v (segmentAt b k) ≡ coreEdgeFrom (segmentAt b k) v) ⊎ (leavingOf v (segmentAt b k) ≡ []) → endsAtAs f ≡ true
+    go (inl l) = sym (ap firstEnds at) ∙ ap firstEnds l ∙ from-ends (segmentAt b k) v
+    go (inr l) = sym (ap firstEnds at) ∙ ap firstEnds l
+
+-- such an end is no peering end
+pub no-link-end : {A : Type 0} (f : Edge) {l p : IsdAsn} {i o : ℕ} → endsAtAs f ≡ true → f .dst ≡ Peering l i p o → A
+unfolding endsAtAs isAs
+no-link-end f q at = not-both q (ap isAs at)
+
+-- none leaves a peering end
+link-leaves : (seg : Segment) → seg .core ≡ true → {v : Vertex} {l p : IsdAsn} {i o : ℕ} → v ≡ Peering l i p o → leavingOf v seg ≡ []
+unfolding coreEdgeFrom sameVertex
+link-leaves seg core {v} at = go (core-leaves seg core v)
+  where
+    go : (leavingOf v seg ≡ coreEdgeFrom seg v) ⊎ (leavingOf v seg ≡ []) → leavingOf v seg ≡ []
+    go (inl q) = q ∙ ap (coreEdgeFrom seg) at
+    go (inr q) = q
 
 module _ (b : List ℕ) (dst : IsdAsn) (e : Edge) (k : ℕ) where
   triples-other : (f : Edge) → cores b ≤ k → triplesIn b dst e f (segmentAt b k) ≡ map (triple b dst e f) (between (segmentAt b k) (f .dst) (AS dst))
@@ -221,6 +277,21 @@ module _ (b : List ℕ) (dst : IsdAsn) (e : Edge) (t : Bool) where
         (λ j l.
         ap₂ (λ s u. if s then (if u then [] else flatMap (acrossWith b dst e) (leavingOf (e .dst) (segmentAt b j))) else pairsIn b dst e (segmentAt b j))
         (core-at b j (omega arith)) k)
+
+    -- after a link no core edge
+    pub chains-link : {l p : IsdAsn} {i o : ℕ} → e .dst ≡ Peering l i p o → chainsFrom b dst e ≡ overFirsts (chainsWith b dst e) b c (n - c)
+    unfolding chainsWith flatMap
+    chains-link at =
+        from-onward b dst e (sym p ∙ q)
+        ∙ skip-cores (chainsWith b dst e) b c n en h
+        (λ j l.
+        ap₂ (λ s g. if s then (if e .core then [] else flatMap (acrossWith b dst e) g) else pairsIn b dst e (segmentAt b j))
+        (core-at b j (omega arith)) (link-leaves (segmentAt b j) (core-at b j (omega arith)) at)
+        ∙ either (e .core))
+      where
+        either : (u : Bool) → (if u then [] else flatMap (acrossWith b dst e) []) ≡ []
+        either true = refl
+        either false = refl
 
     pub chains-other : chainsFrom b dst e ≡ overFirsts (chainsWith b dst e) b 0 c ++ overFirsts (chainsWith b dst e) b c (n - c)
     chains-other = from-onward b dst e (sym p ∙ q) ∙ over-cores (chainsWith b dst e) b c n en h

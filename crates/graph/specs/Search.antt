@@ -1,9 +1,11 @@
 -- The search, chunk by chunk: what each loop of the code adds to the list of chains found so far.
 -- Assumes nothing.
 use Prim.Native.Nat.{ℕ, zero, suc, _+_}
+use mathlib.Core.Bool.{Bool, true, false}
 use mathlib.Core.List.{List, [], _∷_, _++_, map, flatMap}
 use Rattle.spec.specs.declared.IsdAsn.{IsdAsn}
-use Rattle.spec.specs.declared.Vertex.the-variants.{AS}
+use Rattle.spec.specs.declared.Vertex.{Vertex}
+use Rattle.spec.specs.declared.Vertex.the-variants.{AS, Peering}
 use Rattle.spec.specs.declared.Edge.{Edge}
 use Rattle.spec.specs.Basics.{if_then_else_, filter}
 use Rattle.spec.specs.Book.{Segment, segments, segmentAt, segmentCount}
@@ -17,6 +19,14 @@ unfoldable pub overFirsts : {A : Type 0} → (Segment → List A) → List ℕ �
 overFirsts f b k zero = []
 overFirsts f b k (suc left) =
     (if isFirst (segments b) (segmentAt b k) then f (segmentAt b k) else []) ++ overFirsts f b (k + 1) left
+
+unfoldable pub isAs : Vertex → Bool
+isAs (AS _) = true
+isAs (Peering _ _ _ _) = false
+
+-- an edge ends at an AS, as all of core segments do
+unfoldable pub endsAtAs : Edge → Bool
+endsAtAs e = isAs (e .dst)
 
 module _ (b : List ℕ) (dst : IsdAsn) where
   -- the chains that begin with an edge

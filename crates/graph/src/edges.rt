@@ -446,6 +446,27 @@ fn as_joint(
     }
 }
 
+// The stored edge of a non-core segment from an AS to an AS, of which one is the leaf's. What is answered is small.
+pub(crate) fn as_joint_of(book: &[u8], table: &[u16; PLACES], k: u8, a: IsdAsn, w: IsdAsn) -> Joint
+    requires { ⌜ Ready (now book) (now table) ⌝ }
+    requires { ⌜ k < segmentCount (now book) ⌝ }
+    requires { ⌜ segmentAt (now book) k .core ≡ false ⌝ }
+    ensures { λ r. ⌜ jointEdges k (AS a) w r ≡ between (segmentAt (now (book .entry)) k) (AS a) (AS w) ⌝ }
+{
+    let n = count_of(book, k);
+    if n == 0 {
+        return no_joint();
+    }
+    let leaf = as_at(book, table, k, n - 1);
+    if same_as(leaf, w) {
+        return as_joint(book, table, k, n, a, true);
+    }
+    if same_as(leaf, a) {
+        return as_joint(book, table, k, n, w, false);
+    }
+    no_joint()
+}
+
 // The edge to the leaf from the other side of a link, at the first entry that has the link.
 fn link_joint(book: &[u8], table: &[u16; PLACES], k: u8, n: u8, link: Link) -> Joint
     requires { ⌜ Filled (now book) (now table) k n ⌝ }
@@ -481,15 +502,7 @@ fn leaf_joint(
     ensures { λ r. ⌜ jointEdges k v w r ≡ between (segmentAt (now (book .entry)) k) v (AS w) ⌝ }
 {
     match v {
-        Vertex::AS(a) => {
-            if same_as(leaf, w) {
-                return as_joint(book, table, k, n, a, true);
-            }
-            if same_as(leaf, a) {
-                return as_joint(book, table, k, n, w, false);
-            }
-            no_joint()
-        }
+        Vertex::AS(a) => as_joint_of(book, table, k, a, w),
         Vertex::Peering {
             local_ia: l,
             local_ifid: i,

@@ -1,15 +1,16 @@
 // The search for chains: each chain found is pushed into the lent slots. Every loop stops once the count
 // is past the slots.
 ghost use mathlib.Core.Path.{_≡_};
-ghost use mathlib.Core.Bool.{false};
+ghost use mathlib.Core.Bool.{true, false};
 ghost use mathlib.Core.List.{flatMap};
 ghost use Prim.Native.Nat.{_-_, _≤_, _<_};
+ghost use Rattle.spec.specs.declared.Vertex.the-variants.{AS};
 ghost use Rattle.spec.specs.Limits.{maxSegments};
 ghost use Rattle.spec.specs.Basics.{if_then_else_, range};
 ghost use Rattle.spec.specs.Book.{segmentAt, segments, segmentCount, cores};
 ghost use Rattle.graph.specs.Lookup.{foundEdges};
 ghost use Rattle.graph.specs.Leaving.{entryCount, peerCountOf, peerUp, upsAt};
-ghost use Rattle.graph.specs.Search.{overFirsts, chainsFrom, triplesIn, acrossWith, chainsWith, chainsIn, foundChains};
+ghost use Rattle.graph.specs.Search.{overFirsts, endsAtAs, chainsFrom, triplesIn, acrossWith, chainsWith, chainsIn, foundChains};
 ghost use Rattle.graph.specs.Pushed.{Room, Pushes};
 ghost use Rattle.graph.specs.Ready.{Ready};
 ghost use Rattle.graph.specs.Firsts.{firstAt};
@@ -43,7 +44,7 @@ struct Query {
 
 // ---- a third edge
 
-// Two edges, and one of the non-core segment at k that arrives.
+// Two edges, of which the second ends at the AS a, and one of the non-core segment at k that arrives.
 fn triple_in(
     book: &[u8],
     table: &[u16; PLACES],
@@ -51,21 +52,29 @@ fn triple_in(
     k: u8,
     e: Edge,
     f: Edge,
+    a: IsdAsn,
     out: &mut [u8],
     n: usize,
 ) -> usize
     requires { ⌜ Ready (now book) (now table) ⌝ }
     requires { ⌜ (cores (now book) ≤ k) × (k < segmentCount (now book)) ⌝ }
+    requires { ⌜ f .dst ≡ AS a ⌝ }
     requires { ⌜ Room (q .slots) n (now out) ⌝ }
     ensures { λ r. ⌜ Pushes (q .slots) (n, now (out .entry)) (r, now (out .exit)) (triplesIn (now (book .entry)) (q .dst) e f (segmentAt (now (book .entry)) k)) ⌝ }
 {
-    let from = f.dst;
     let dst = q.dst;
-    let j = edges::joint_of(book, table, k, from, dst);
+    let j = edges::as_joint_of(book, table, k, a, dst);
     if !j.found {
         return n;
     }
-    slots::push_three(out, q.slots, n, e, f, edges::edge_at(k, from, dst, j))
+    slots::push_three(
+        out,
+        q.slots,
+        n,
+        e,
+        f,
+        edges::edge_at(k, Vertex::AS(a), dst, j),
+    )
 }
 
 fn triples(
@@ -75,10 +84,12 @@ fn triples(
     q: Query,
     e: Edge,
     f: Edge,
+    a: IsdAsn,
     out: &mut [u8],
     start: usize,
 ) -> usize
     requires { ⌜ Prepared (now book) (now table) (now plan) (q .src) (q .dst) (q .cores) (q .count) ⌝ }
+    requires { ⌜ f .dst ≡ AS a ⌝ }
     requires { ⌜ Room (q .slots) start (now out) ⌝ }
     ensures { λ r. ⌜ Pushes (q .slots) (start, now (out .entry)) (r, now (out .exit)) (overFirsts (triplesIn (now (book .entry)) (q .dst) e f) (now (book .entry)) (q .cores) (q .count - q .cores)) ⌝ }
 {
@@ -88,7 +99,7 @@ fn triples(
         if q.slots < n {
             return n;
         }
-        n = triple_in(book, table, q, k, e, f, out, n);
+        n = triple_in(book, table, q, k, e, f, a, out, n);
         k = plan[NEXT + (k as usize + 1)];
     }
     n
@@ -96,7 +107,7 @@ fn triples(
 
 // ---- a second edge
 
-// An edge, and an edge of a core segment that follows it: it arrives, or a third follows.
+// An edge, and an edge of a core segment that follows it, to an AS: it arrives, or a third follows.
 fn across_with(
     book: &[u8],
     table: &[u16; PLACES],
@@ -108,6 +119,7 @@ fn across_with(
     n: usize,
 ) -> usize
     requires { ⌜ Prepared (now book) (now table) (now plan) (q .src) (q .dst) (q .cores) (q .count) ⌝ }
+    requires { ⌜ endsAtAs f ≡ true ⌝ }
     requires { ⌜ Room (q .slots) n (now out) ⌝ }
     ensures { λ r. ⌜ Pushes (q .slots) (n, now (out .entry)) (r, now (out .exit)) (acrossWith (now (book .entry)) (q .dst) e f) ⌝ }
 {
@@ -116,7 +128,10 @@ fn across_with(
     if edges::same_vertex(to, Vertex::AS(dst)) {
         return slots::push_two(out, q.slots, n, e, f);
     }
-    triples(book, table, plan, q, e, f, out, n)
+    let Vertex::AS(a) = to else {
+        return n;
+    };
+    triples(book, table, plan, q, e, f, a, out, n)
 }
 
 // The same for the edge of the core segment at k that follows.
@@ -172,7 +187,59 @@ fn across(
     n
 }
 
-// An edge, and one of the non-core segment at k that arrives.
+// An edge that ends at the AS a, and one of the non-core segment at k that arrives.
+fn as_pair_in(
+    book: &[u8],
+    table: &[u16; PLACES],
+    q: Query,
+    k: u8,
+    e: Edge,
+    a: IsdAsn,
+    out: &mut [u8],
+    n: usize,
+) -> usize
+    requires { ⌜ Ready (now book) (now table) ⌝ }
+    requires { ⌜ (cores (now book) ≤ k) × (k < segmentCount (now book)) ⌝ }
+    requires { ⌜ e .dst ≡ AS a ⌝ }
+    requires { ⌜ Room (q .slots) n (now out) ⌝ }
+    ensures { λ r. ⌜ Pushes (q .slots) (n, now (out .entry)) (r, now (out .exit)) (chainsWith (now (book .entry)) (q .dst) e (segmentAt (now (book .entry)) k)) ⌝ }
+{
+    let dst = q.dst;
+    let j = edges::as_joint_of(book, table, k, a, dst);
+    if !j.found {
+        return n;
+    }
+    slots::push_two(out, q.slots, n, e, edges::edge_at(k, Vertex::AS(a), dst, j))
+}
+
+fn as_pairs(
+    book: &[u8],
+    table: &[u16; PLACES],
+    plan: &[u8; PLAN],
+    q: Query,
+    e: Edge,
+    a: IsdAsn,
+    out: &mut [u8],
+    start: usize,
+) -> usize
+    requires { ⌜ Prepared (now book) (now table) (now plan) (q .src) (q .dst) (q .cores) (q .count) ⌝ }
+    requires { ⌜ e .dst ≡ AS a ⌝ }
+    requires { ⌜ Room (q .slots) start (now out) ⌝ }
+    ensures { λ r. ⌜ Pushes (q .slots) (start, now (out .entry)) (r, now (out .exit)) (overFirsts (chainsWith (now (book .entry)) (q .dst) e) (now (book .entry)) (q .cores) (q .count - q .cores)) ⌝ }
+{
+    let mut n = start;
+    let mut k = plan[NEXT + (q.cores as usize)];
+    while k < q.count {
+        if q.slots < n {
+            return n;
+        }
+        n = as_pair_in(book, table, q, k, e, a, out, n);
+        k = plan[NEXT + (k as usize + 1)];
+    }
+    n
+}
+
+// An edge that ends anywhere, and one of the non-core segment at k that arrives.
 fn pair_in(
     book: &[u8],
     table: &[u16; PLACES],
@@ -196,7 +263,8 @@ fn pair_in(
     slots::push_two(out, q.slots, n, e, edges::edge_at(k, from, dst, j))
 }
 
-fn pairs(
+// The same for all, of an edge that ends at a peering end.
+fn link_pairs(
     book: &[u8],
     table: &[u16; PLACES],
     plan: &[u8; PLAN],
@@ -242,11 +310,14 @@ fn chains_from(
     if edges::same_vertex(to, Vertex::AS(dst)) {
         return slots::push_one(out, q.slots, n, e);
     }
+    let Vertex::AS(a) = to else {
+        return link_pairs(book, table, plan, q, e, out, n);
+    };
     if e.core {
-        return pairs(book, table, plan, q, e, out, n);
+        return as_pairs(book, table, plan, q, e, a, out, n);
     }
     let m = across(book, table, plan, q, e, out, n);
-    pairs(book, table, plan, q, e, out, m)
+    as_pairs(book, table, plan, q, e, a, out, m)
 }
 
 // The same for an edge that may not be there.

@@ -2,7 +2,7 @@
 -- Assumes nothing.
 use native.Mathlib.Omega.{arith}
 use Rattle.graph.proofs.PushedTurns.{pushes-as, pushes-none}
-use Rattle.graph.proofs.SearchTurns.{core-at, across-found, across-nothing}
+use Rattle.graph.proofs.SearchTurns.{core-at, core-ends, across-found, across-nothing}
 use borrow.Author.Needs.{needs}
 use Rattle.graph.proofs.search.across_in.Statement.{statement}
 use Rattle.graph.proofs.search.across_in.Tie as tie
@@ -11,6 +11,11 @@ core-leaving-requires : tie.Need-core-leaving-requires
 core-leaving-requires c κs =
     let p = c .before .before .pre in
     (p .0 .ready, (omega arith, core-at _ _ (omega arith)))
+
+across-with-requires : tie.Need-across-with-requires
+across-with-requires c κs =
+    let p = c .before .before .before .before .before .before .before .pre in
+    (p .0, (core-ends _ _ _ _ _ (omega arith) (c .before .before .before .before .core-leaving .ensures) (c .before .before .found .given .1), p .1 .1 .1))
 
 returns : tie.Need-returns
 returns c =
@@ -29,7 +34,7 @@ across-in-spec =
     (tie.spec
     core-leaving-requires
     (λ c. search needs)
-    (λ c κs. search needs)
+    across-with-requires
     (λ c. search needs)
     (λ c. search needs)
     returns

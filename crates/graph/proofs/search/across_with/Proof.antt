@@ -1,21 +1,23 @@
 -- The second edge arrives, or third edges are looked for.
 -- Assumes nothing.
 use Rattle.graph.proofs.PushedTurns.{pushes-as}
-use Rattle.graph.proofs.SearchTurns.{across-arrived, across-onward}
+use Rattle.graph.proofs.SearchTurns.{no-link-end, across-arrived, across-onward}
 use borrow.Author.Needs.{needs}
 use Rattle.graph.proofs.search.across_with.Statement.{statement}
 use Rattle.graph.proofs.search.across_with.Tie as tie
 
 returns : tie.Need-returns
-returns c =
-    pushes-as (c .before .before .push-two .ensures)
-    (across-arrived _ _ _ _ _ (c .before .before .before .before .before .same-vertex .ensures) (c .before .before .before .before .if1 .taken))
+returns c = pushes-as (c .before .before .push-two .ensures) (across-arrived _ _ _ _ _ (c .before .before .before .before .before .same-vertex .ensures) (c .before .before .before .before .if1 .taken))
 
 returns-2 : tie.Need-returns-2
-returns-2 c =
-    let p = c .before .before .before .before .before .before .before .before .before .pre .0 in
-    pushes-as (c .before .before .triples .ensures)
-    (across-onward _ _ _ _ _ _ _ (p .cores) (p .count) (p .within) (c .before .before .before .before .before .same-vertex .ensures) (c .before .before .before .before .if1 .left))
+returns-2 c = no-link-end _ (c .before .before .before .before .before .before .before .pre .1 .0) (c .enum-told .given .1)
+
+triples-requires : tie.Need-triples-requires
+triples-requires c κs = (c .before .before .before .before .before .before .before .before .before .pre .0, (c .before .before .to .given .1, c .before .before .before .before .before .before .before .before .before .pre .1 .1))
+
+returns-3 : tie.Need-returns-3
+returns-3 c = let p = c .before .before .before .before .before .before .before .before .before .before .before .before .pre .0 in
+    pushes-as (c .before .before .triples .ensures) (across-onward _ _ _ _ _ _ _ (p .cores) (p .count) (p .within) (c .before .before .before .before .before .before .before .before .same-vertex .ensures) (c .before .before .before .before .before .before .before .if1 .left))
 
 pub across-with-spec : {M : Type 1} → statement M
 across-with-spec =
@@ -25,6 +27,9 @@ across-with-spec =
     (λ c κs. search needs)
     (λ c. search needs)
     returns
-    (λ c κs. search needs)
     (λ c. search needs)
-    returns-2)
+    (λ c. search needs)
+    returns-2
+    triples-requires
+    (λ c. search needs)
+    returns-3)

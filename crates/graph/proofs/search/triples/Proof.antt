@@ -13,12 +13,12 @@ use Rattle.graph.proofs.search.triples.Statement.{statement}
 use Rattle.graph.proofs.search.triples.Tie as tie
 
 abbrev Inv-loop : tie.InvT-loop
-Inv-loop book table plan q e f out₀ start n₀ k₀ out n k =
+Inv-loop book table plan q e f a out₀ start n₀ k₀ out n k =
     (q .cores ≤ k) × (length out ≡ length out₀) × Stops book (q .dst) (q .count) k
     × Going (q .slots) (start, out₀) (n, out) (overFirsts (triplesIn book (q .dst) e f) book (q .cores) (q .count - q .cores)) (overFirsts (triplesIn book (q .dst) e f) book k (q .count - k))
 
 abbrev μ-loop : tie.MeasureT-loop
-μ-loop book table plan q e f out₀ start n₀ k₀ out n k = q .count - k
+μ-loop book table plan q e f a out₀ start n₀ k₀ out n k = q .count - k
 
 loop-holds : tie.Need-loop-holds Inv-loop μ-loop
 loop-holds c =
@@ -33,7 +33,7 @@ triple-in-requires : tie.Need-triple-in-requires Inv-loop μ-loop
 triple-in-requires c κs =
     let p = c .before .before .before .before .before .before .before .before .before .before .pre in
     let l = c .before .before .before .before .before .loop in
-    (p .0 .ready, ((omega arith, omega arith), record { room = omega arith; most = omega arith }))
+    (p .0 .ready, ((omega arith, omega arith), (p .1 .0, record { room = omega arith; most = omega arith })))
 
 loop-less : tie.Need-loop-less Inv-loop μ-loop
 loop-less c =

@@ -9,8 +9,8 @@ use Rattle.graph.proofs.PushedTurns.{Going, going-begin, going-push, go
 use Rattle.graph.proofs.SearchPlan.{Stops, next-above, next-stops, pairs-pass, pairs-turn}
 use Rattle.graph.proofs.SearchLaws.{over-end}
 use borrow.Author.Needs.{needs}
-use Rattle.graph.proofs.search.pairs.Statement.{statement}
-use Rattle.graph.proofs.search.pairs.Tie as tie
+use Rattle.graph.proofs.search.link_pairs.Statement.{statement}
+use Rattle.graph.proofs.search.link_pairs.Tie as tie
 
 abbrev Inv-loop : tie.InvT-loop
 Inv-loop book table plan q e out₀ start n₀ k₀ out n k =
@@ -55,8 +55,8 @@ loop-again c =
 returns-2 : tie.Need-returns-2 Inv-loop μ-loop
 returns-2 c = going-end (c .before .before .loop .inv .3) (over-end _ _ _ _ (omega arith))
 
-pub pairs-spec : {M : Type 1} → statement M
-pairs-spec =
+pub link-pairs-spec : {M : Type 1} → statement M
+link-pairs-spec =
     tie.close
     (tie.spec
     Inv-loop
