@@ -55,9 +55,9 @@ unfolding rowsBelow
 rows-more b k = rw add-one
 
 -- the turn of the loop that fills the table, and its end
-pub rows-step : (b : List ℕ) (k : ℕ) {at n : ℕ} {rows more : List ℕ} → at ≡ bodyOffset b k → n ≡ entryCountAt b k → rows ≡ rowsBelow b k
-    → more ≡ withRow b at (maxEntries * k) n rows → more ≡ rowsBelow b (k + 1)
-rows-step b k ea en er q = cc (rows-more b k)
+pub rows-step : (b : List ℕ) (k : ℕ) {row at n : ℕ} {rows more : List ℕ} → row ≡ maxEntries * k → at ≡ bodyOffset b k → n ≡ entryCountAt b k → rows ≡ rowsBelow b k
+    → more ≡ withRow b at row n rows → more ≡ rowsBelow b (k + 1)
+rows-step b k ew ea en er q = cc (rows-more b k)
 
 pub rows-all : (b : List ℕ) {k : ℕ} {rows : List ℕ} → rows ≡ rowsBelow b k → k ≡ segmentCount b → rows ≡ offsetTable b
 unfolding offsetTable

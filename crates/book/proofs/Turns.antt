@@ -276,7 +276,7 @@ module _ (b : List ℕ) (z : Sized b) (k : ℕ) (h : k < segmentCount b) where
       go true q = not-both (any-mem (isLong b) (range 0 (segmentCount b)) (mem-range 0 (segmentCount b) k (omega arith) (omega arith)) q) (z .short)
       go false q = ltb-false _ _ q
 
-  pub body-fits : {at size count : ℕ} → at ≡ bodyOffset b k → size ≡ bodyLengthAt b k → count ≡ entryCountAt b k → Body b k at (at + size) count
+  pub body-fits : {at size count : ℕ} → at ≡ bodyOffset b k → size ≡ bodyLengthAt b k → count ≡ entryCountAt b k → Body b (maxEntries * k) at (at + size) count
   body-fits ea es ec =
       record {
         position = omega (arith, z .crowd);
@@ -287,6 +287,14 @@ module _ (b : List ℕ) (z : Sized b) (k : ℕ) (h : k < segmentCount b) where
       }
 
 -- ---- the one pass
+
+-- a head that is counted up to
+module _ (b : List ℕ) (k : ℕ) {head : ℕ} (eh : head ≡ sizesSize + headSize * k) where
+  pub head-count : {x : ℕ} → x ≡ be16 b (head + 6) → x ≡ entryCountAt b k
+  head-count e = e ∙ ap (λ o. be16 b (o + 6)) eh ∙ count-read b k
+
+  pub head-length : {x : ℕ} → x ≡ be16 b (head + 8) → x ≡ bodyLengthAt b k
+  head-length e = e ∙ ap (λ o. be16 b (o + 8)) eh ∙ length-read b k
 
 pub front : (b : List ℕ) → length b ≤ maxBook → {all : ℕ} → all ≡ segmentCount b → all ≤ maxSegments → {sizes : Sizes} → sizes ≡ sizesAt b
     → sizesSize + headSize * all + sizes .bodies ≡ length b → Fronted b all (sizesSize + headSize * all)
@@ -302,8 +310,8 @@ module _ (b : List ℕ) {n start : ℕ} (z : Fronted b n start) where
   pub front-heads : (k : ℕ) → k < n → sizesSize + headSize * k + headSize ≤ length b
   front-heads k h = omega (arith, z .first, z .all, heads-first b, front-starts)
 
-  pub front-body : (k : ℕ) → k < n → {count at end : ℕ} → count ≤ maxEntries → at ≤ end → end ≤ length b → Body b k at end count
-  front-body k h few up l = record { position = omega (arith, z .crowd); entries = few; filled = up; inside = l; small = z .small }
+  pub front-body : (k : ℕ) → k < n → {row count at end : ℕ} → row ≡ maxEntries * k → count ≤ maxEntries → at ≤ end → end ≤ length b → Body b row at end count
+  front-body k h er few up l = record { position = omega (arith, z .crowd); entries = few; filled = up; inside = l; small = z .small }
 
   -- every head and every body passed, and the last body ends where the book does
   module _ {k at : ℕ} (done : n ≤ k) (last : k ≤ n) (ea : at ≡ bodyOffset b k) (full : at ≡ length b) where

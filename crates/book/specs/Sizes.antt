@@ -40,9 +40,9 @@ pub record Fronted (b : List ℕ) (count start : ℕ) : Type 0 where
   pub first : start ≡ bodyOffset b 0
   pub whole : wholeLength b ≡ length b
 
--- a body of a book of sizes that fit: its position, its ends and its number of entries
-pub record Body (b : List ℕ) (k start end count : ℕ) : Type 0 where
-  pub position : k < maxSegments
+-- a body of a book of sizes that fit: where its row of the table begins, its ends and its number of entries
+pub record Body (b : List ℕ) (row start end count : ℕ) : Type 0 where
+  pub position : row + maxEntries ≤ maxSegments * maxEntries
   pub entries : count ≤ maxEntries
   pub filled : start ≤ end
   pub inside : end ≤ length b

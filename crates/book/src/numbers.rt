@@ -20,7 +20,7 @@ fn wide16(b: u8) -> u16
     b as u16
 }
 
-fn pair(book: &[u8], at: usize) -> u16
+pub(crate) fn pair(book: &[u8], at: usize) -> u16
     requires { ⌜ at + 2 ≤ length (now book) ⌝ }
     ensures { λ r. ⌜ r ≡ be16 (now (book .entry)) at ⌝ }
 {

@@ -5,8 +5,7 @@ ghost use Rattle.spec.specs.declared.Verdict.the-variants.{Accepted};
 ghost use Rattle.spec.specs.Book.{verdict};
 ghost use Rattle.book.specs.Offsets.{noOffsets, offsetTable};
 ghost use Rattle.book.specs.Sizes.{Fronted};
-use crate::numbers::count_within;
-use crate::numbers::length_within;
+use crate::numbers::pair;
 use crate::numbers::wide;
 use crate::rows::PLACES;
 use crate::rows::entry_sizes;
@@ -16,7 +15,8 @@ use spec::Limits;
 use spec::Sizes;
 use spec::Verdict;
 
-// The heads with their bodies, by position.
+// The heads with their bodies, by position. Where the next head and the next row stand is counted up, which is less work than
+// finding them by the position.
 fn scan(book: &[u8], table: &mut [u16; PLACES], count: u8, start: usize) -> bool
     requires { ⌜ Fronted (now book) count start ⌝ }
     requires { ⌜ now table ≡ noOffsets ⌝ }
@@ -24,21 +24,25 @@ fn scan(book: &[u8], table: &mut [u16; PLACES], count: u8, start: usize) -> bool
 {
     let sizes = entry_sizes();
     let mut at = start;
+    let mut head = Sizes::SIZE;
+    let mut row: usize = 0;
     let mut k: u8 = 0;
     while k < count {
-        let n = wide(count_within(book, k));
+        let n = wide(pair(book, head + 6));
         if Limits::ENTRIES < n {
             return false;
         }
-        let end = at + wide(length_within(book, k));
+        let end = at + wide(pair(book, head + 8));
         if book.len() < end {
             return false;
         }
-        let v = fill_row(book, &sizes, table, k, at, end, n);
+        let v = fill_row(book, &sizes, table, row, at, end, n);
         if let Verdict::Refused(_) = v {
             return false;
         }
         at = end;
+        head += Head::SIZE;
+        row += Limits::ENTRIES;
         k += 1;
     }
     at == book.len()

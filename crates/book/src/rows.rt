@@ -1,8 +1,6 @@
 // The pass over a book's bodies: each entry is tested, and the offset at which it starts is stored.
 ghost use mathlib.Core.Path.{_≡_};
-ghost use Prim.Native.Nat.{_*_};
 ghost use Rattle.spec.specs.declared.Verdict.the-variants.{Accepted};
-ghost use Rattle.spec.specs.Limits.{maxEntries};
 ghost use Rattle.spec.specs.Book.{segmentCount, entriesVerdict, bodiesVerdict};
 ghost use Rattle.book.specs.Offsets.{noOffsets, withRow, offsetTable};
 ghost use Rattle.book.specs.Sizes.{Sized, Body, entrySizes};
@@ -34,21 +32,20 @@ pub(crate) fn entry_sizes() -> [usize; COUNTS]
     ]
 }
 
-// The `count` entries of the body from `start` to `end`: tests them, and stores their offsets in row k.
+// The `count` entries of the body from `start` to `end`: tests them, and stores their offsets from place `row` on.
 pub(crate) fn fill_row(
     book: &[u8],
     sizes: &[usize; COUNTS],
     table: &mut [u16; PLACES],
-    k: u8,
+    row: usize,
     start: usize,
     end: usize,
     count: usize,
 ) -> Verdict
-    requires { ⌜ Body (now book) k start end count ⌝ }
+    requires { ⌜ Body (now book) row start end count ⌝ }
     requires { ⌜ now sizes ≡ entrySizes ⌝ }
-    ensures { λ r. ⌜ (r ≡ entriesVerdict (now (book .entry)) end start count) × (r ≡ Accepted → now (table .exit) ≡ withRow (now (book .entry)) start (maxEntries * k) count (now (table .entry))) ⌝ }
+    ensures { λ r. ⌜ (r ≡ entriesVerdict (now (book .entry)) end start count) × (r ≡ Accepted → now (table .exit) ≡ withRow (now (book .entry)) start row count (now (table .entry))) ⌝ }
 {
-    let row = Limits::ENTRIES * (k as usize);
     let mut at = start;
     let mut i: usize = 0;
     while i < count {
@@ -83,7 +80,15 @@ pub(crate) fn fill_rows(book: &[u8], table: &mut [u16; PLACES]) -> Verdict
     while k < count {
         let end = at + wide(length_within(book, k));
         let n = wide(count_within(book, k));
-        let v = fill_row(book, &sizes, table, k, at, end, n);
+        let v = fill_row(
+            book,
+            &sizes,
+            table,
+            Limits::ENTRIES * (k as usize),
+            at,
+            end,
+            n,
+        );
         if let Verdict::Refused(_) = v {
             return v;
         }

@@ -3,7 +3,7 @@
 use mathlib.Core.Path.{_≡_, refl, sym, ap, _∙_}
 use Prim.Native.Nat.{_+_, _*_, _-_, _≤_}
 use native.Mathlib.Omega.{arith}
-use Rattle.spec.specs.Limits.{maxEntries, entrySize, peerSize, maxPeers}
+use Rattle.spec.specs.Limits.{entrySize, peerSize, maxPeers}
 use Rattle.spec.specs.Book.{entryOffset, entriesVerdict}
 use Rattle.segment.proofs.Fitting.{offset-step}
 use Rattle.book.specs.Offsets.{withRow}
@@ -14,10 +14,10 @@ use Rattle.book.proofs.rows.fill_row.Statement.{statement}
 use Rattle.book.proofs.rows.fill_row.Tie as tie
 
 abbrev Inv-loop : tie.InvT-loop
-Inv-loop book sizes table₀ k start end count row at₀ i₀ table at i = (i ≤ count) × (at ≤ end + peerSize * maxPeers) × (at ≡ entryOffset book start i) × (table ≡ withRow book start (maxEntries * k) i table₀) × (entriesVerdict book end start count ≡ restVerdict book end at (count - i))
+Inv-loop book sizes table₀ row start end count at₀ i₀ table at i = (i ≤ count) × (at ≤ end + peerSize * maxPeers) × (at ≡ entryOffset book start i) × (table ≡ withRow book start row i table₀) × (entriesVerdict book end start count ≡ restVerdict book end at (count - i))
 
 abbrev μ-loop : tie.MeasureT-loop
-μ-loop book sizes table₀ k start end count row at₀ i₀ table at i = count - i
+μ-loop book sizes table₀ row start end count at₀ i₀ table at i = count - i
 
 loop-holds : tie.Need-loop-holds Inv-loop μ-loop
 unfolding entryOffset withRow
@@ -55,7 +55,7 @@ returns-4 c =
     let l = c .before .before in
     let a = l .before .args in
     let e : l .loop .i ≡ a .count = omega arith in
-    (sym (l .loop .inv .4 ∙ rest-fill _ _ _ _ _ (c .before .loop-test .left) (c .if3 .left)), λ q. l .loop .inv .3 ∙ ap (λ n. withRow (a .book .now) (a .start) (maxEntries * a .k) n (a .table .now)) e)
+    (sym (l .loop .inv .4 ∙ rest-fill _ _ _ _ _ (c .before .loop-test .left) (c .if3 .left)), λ q. l .loop .inv .3 ∙ ap (λ n. withRow (a .book .now) (a .start) (a .row) n (a .table .now)) e)
 
 pub fill-row-spec : {M : Type 1} → statement M
 fill-row-spec =
@@ -63,7 +63,6 @@ fill-row-spec =
     (tie.spec
     Inv-loop
     μ-loop
-    (λ c. search needs)
     loop-holds
     (λ c. search needs)
     returns

@@ -1,6 +1,6 @@
 -- `fill_rows` meets its contract. The loop's invariant: what is left says what the whole says, the rows before k are stored, and `at` is where the next body starts.
 -- Assumes nothing.
-use mathlib.Core.Path.{_≡_, sym, _∙_}
+use mathlib.Core.Path.{_≡_, refl, sym, _∙_}
 use Prim.Native.Nat.{_+_, _*_, _-_, _^_, _≤_, _<_}
 use native.Mathlib.Omega.{arith}
 use Rattle.spec.specs.Book.{segmentCount, bodyOffset, bodiesVerdict}
@@ -48,7 +48,7 @@ loop-again c =
       omega arith,
       omega arith,
       body-next _ _ (l .loop .inv .2) size,
-      rows-step _ _ (l .loop .inv .2) count (l .loop .inv .3) (c .before .before .fill-row .ensures .1 e),
+      rows-step _ _ refl (l .loop .inv .2) count (l .loop .inv .3) (c .before .before .fill-row .ensures .1 e),
       l .loop .inv .4 ∙ bodies-next _ _ _ (c .before .before .before .before .before .before .before .before .before .loop-test .taken) (says ∙ e),
     )
 
@@ -73,6 +73,8 @@ fill-rows-spec =
     (λ c. search needs)
     count-within-requires
     (λ c κs. search needs)
+    (λ c. search needs)
+    (λ c. search needs)
     fill-row-requires
     (λ c. search needs)
     returns
