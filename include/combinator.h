@@ -43,7 +43,10 @@
  * all zero. Zeroing takes time: an output no longer than needed is cheaper.
  *
  *
- * Threads and stack
+ * Time, threads and stack
+ *
+ * Every call ends after a number of steps that the limits of a book bind. The tests hold a listing to
+ * 20 ms and an assembly to 2 ms of the thread's own time; the dearest book known took 1.6 ms.
  *
  * There is no state: both functions may be called at the same time from any threads, each call with
  * an output of its own.

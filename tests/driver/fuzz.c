@@ -158,6 +158,44 @@ static void fault(int signal_number)
 
 static uint8_t expected[MAX_OUT];
 
+/* No call takes longer than include/combinator.h says. The thread's clock counts time too in which a virtual machine was taken off its
+ * processor: a call that seems long is made again, and the least time counts. */
+#ifndef LIST_NS
+#define LIST_NS 20000000u
+#endif
+#ifndef ASSEMBLE_NS
+#define ASSEMBLE_NS 2000000u
+#endif
+#define TRIES 5
+
+struct call {
+    int assemble;
+    const uint8_t *book, *record;
+    uint8_t *out;
+    size_t out_len;
+};
+
+static uint32_t timed(const struct call *c, uint64_t *ns)
+{
+    uint64_t start = work_ns();
+    uint32_t answer = c->assemble ? combinator_assemble(now.src, now.dst, c->book, now.book_len, c->record, now.record_len, c->out, c->out_len)
+                                  : combinator_list(now.src, now.dst, c->book, now.book_len, c->out, c->out_len);
+    *ns = work_ns() - start;
+    return answer;
+}
+
+static uint64_t least(const struct call *c, uint64_t ns)
+{
+    uint64_t again;
+    int i;
+    for (i = 1; i < TRIES; i++) {
+        timed(c, &again);
+        if (again < ns)
+            ns = again;
+    }
+    return ns;
+}
+
 /* Listing, or assembly of now.record. The output that came is at the returned place until the next call. */
 static const uint8_t *check(int assemble, size_t out_len, uint32_t *answered)
 {
@@ -166,8 +204,9 @@ static const uint8_t *check(int assemble, size_t out_len, uint32_t *answered)
     uint8_t *out = place(&out_area, out_at, out_len);
     const char *call = assemble ? "assembly" : "listing";
     struct longest *longest = assemble ? &longest_assemble : &longest_list;
+    struct call it = {assemble, book, record, out, out_len};
     uint32_t answer, want;
-    uint64_t start, ns;
+    uint64_t ns;
     size_t i;
 
     if (now.book_len)
@@ -178,10 +217,7 @@ static const uint8_t *check(int assemble, size_t out_len, uint32_t *answered)
         memset(out, (int)pick(256), out_len);
     want = assemble ? model_assemble(now.src, now.dst, now.book, now.book_len, now.record, now.record_len, expected, out_len)
                     : model_list(now.src, now.dst, now.book, now.book_len, expected, out_len);
-    start = work_ns();
-    answer = assemble ? combinator_assemble(now.src, now.dst, book, now.book_len, record, now.record_len, out, out_len)
-                      : combinator_list(now.src, now.dst, book, now.book_len, out, out_len);
-    ns = work_ns() - start;
+    answer = timed(&it, &ns);
 
     if (!guards_hold(out, out_at, out_len))
         wrong(call, "bytes beside the output were written", out_len, answer, want);
@@ -199,6 +235,11 @@ static const uint8_t *check(int assemble, size_t out_len, uint32_t *answered)
         wrong(call, "another output", out_len, answer, want);
 
     longest->calls++;
+    if (ns > longest->ns)
+        ns = least(&it, ns);
+    /* Not under valgrind, which makes all slower. */
+    if (!undefined && ns > (assemble ? ASSEMBLE_NS : LIST_NS))
+        wrong(call, "longer than stated", out_len, answer, want);
     if (ns > longest->ns) {
         longest->ns = ns;
         longest->turn = now.turn;
@@ -785,7 +826,8 @@ int fuzz_mode(int args, char **arg)
         turn(seed, first + turns);
         turns++;
     }
-    printf("seed %" PRIu64 ", %" PRIu64 " turns: every answer and output as the model's, no byte written beside a buffer\n", seed, turns);
+    printf("seed %" PRIu64 ", %" PRIu64 " turns: every answer and output as the model's, no byte written beside a buffer%s\n", seed, turns,
+           undefined ? "" : ", no call longer than stated");
     report("listing", &longest_list);
     report("assembly", &longest_assemble);
     printf("assembly gave %" PRIu64 " paths, %" PRIu64 " loop, %" PRIu64 " bare; refusals", paths, loops, bares);
