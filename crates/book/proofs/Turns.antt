@@ -15,7 +15,7 @@ use Rattle.spec.specs.declared.Refusal.{Refusal}
 use Rattle.spec.specs.declared.Refusal.the-variants.{Cut, Surplus, Oversize, Crowded, Long, Peers, Misfit}
 use Rattle.spec.specs.declared.Verdict.{Verdict}
 use Rattle.spec.specs.declared.Verdict.the-variants.{Accepted, Refused}
-use Rattle.spec.specs.Limits.{sizesSize, headSize, maxBook, maxSegments, maxEntries, maxPeers, entrySize, peerSize}
+use Rattle.spec.specs.Limits.{sizesSize, headSize, maxBook, maxSegments, maxEntries, maxPeers, entrySize, peerSize, peerCountOffset}
 use Rattle.spec.specs.Basics.{if_then_else_, any, range}
 use Rattle.spec.specs.Octets.{be16}
 use Rattle.spec.specs.Book.{segmentCount, headOffset, bodyTotal, entryCountAt, bodyLengthAt, lengthsBelow, bodyOffset, wholeLength, sizesAt, peerCount, entryEnd, entriesVerdict, bodyVerdict, _andThen_, bodiesVerdict, isLong, tooLong, verdict}
@@ -85,7 +85,7 @@ module _ (b : List ℕ) (end at : ℕ) where
   unfolding entriesVerdict
   rest-fill n i h l = let e : n - i ≡ 0 = omega arith in rw e (sym (rest-is 0 (omega arith)) ∙ rw (le-ltb at end (omega arith)))
 
-pub peers-here : (b : List ℕ) (at : ℕ) → getD b (at + 25) 0 ≡ peerCount b at
+pub peers-here : (b : List ℕ) (at : ℕ) → getD b (at + peerCountOffset) 0 ≡ peerCount b at
 unfolding peerCount
 peers-here b at = refl
 

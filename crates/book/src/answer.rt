@@ -3,9 +3,9 @@
 ghost use mathlib.Core.Path.{_≡_};
 ghost use Rattle.spec.specs.Book.{verdict};
 ghost use Rattle.book.specs.Offsets.{openTable};
-use crate::once::quick;
-use crate::rows::PLACES;
-use crate::rows::fill_rows;
+use crate::offsets::PLACES;
+use crate::offsets::fill_rows;
+use crate::single_pass::open_fast;
 use crate::sizes::sizes_verdict;
 use spec::Verdict;
 
@@ -33,7 +33,7 @@ pub fn open(book: &[u8], table: &mut [u16; PLACES]) -> Verdict
     ensures { λ r. ⌜ (r ≡ verdict (now (book .entry))) × (now (table .exit) ≡ openTable (now (book .entry))) ⌝ }
 {
     *table = [0u16; PLACES];
-    if quick(book, table) {
+    if open_fast(book, table) {
         return Verdict::Accepted;
     }
     open_slowly(book, table)

@@ -2,10 +2,10 @@
 // answers for any bytes: what lies past the book's end reads as 0.
 mod answer;
 mod numbers;
-mod once;
-mod rows;
+mod offsets;
+mod single_pass;
 mod sizes;
 
 pub use answer::open;
 pub use answer::verdict;
-pub use rows::PLACES;
+pub use offsets::PLACES;

@@ -31,12 +31,15 @@ pub(crate) fn count_within(book: &[u8], k: u8) -> u16
     requires { ⌜ sizesSize + headSize * k + headSize ≤ length (now book) ⌝ }
     ensures { λ r. ⌜ r ≡ entryCountAt (now (book .entry)) k ⌝ }
 {
-    pair(book, Sizes::SIZE + Head::SIZE * (k as usize) + 6)
+    pair(
+        book,
+        Sizes::SIZE + Head::SIZE * (k as usize) + Head::ENTRIES,
+    )
 }
 
 pub(crate) fn length_within(book: &[u8], k: u8) -> u16
     requires { ⌜ sizesSize + headSize * k + headSize ≤ length (now book) ⌝ }
     ensures { λ r. ⌜ r ≡ bodyLengthAt (now (book .entry)) k ⌝ }
 {
-    pair(book, Sizes::SIZE + Head::SIZE * (k as usize) + 8)
+    pair(book, Sizes::SIZE + Head::SIZE * (k as usize) + Head::BODY)
 }

@@ -1,4 +1,4 @@
--- The fields of sizes and heads that were read whole, for callers; and such records put together of what was read.
+-- The fields of sizes that were read whole, for callers; and records put together of what was read.
 -- Assumes nothing.
 use mathlib.Core.Path.{_≡_, ap}
 use mathlib.Core.List.{List, [], _∷_}
@@ -7,11 +7,10 @@ use native.Mathlib.Nat.{add-assoc}
 use lib.ListN.{getD}
 use Rattle.spec.specs.declared.IsdAsn.{IsdAsn}
 use Rattle.spec.specs.declared.Sizes.{Sizes}
-use Rattle.spec.specs.declared.Head.{Head}
 use Rattle.spec.specs.declared.AsEntry.{AsEntry}
 use Rattle.spec.specs.declared.PeerEntry.{PeerEntry}
 use Rattle.spec.specs.Octets.{be16, be32}
-use Rattle.spec.specs.Book.{cores, nonCores, bodyTotal, headOffset, timestampAt, idAt, entryCountAt, bodyLengthAt, sizesAt, headAt, isdAsnAt, macAt, peerCount, asEntryAt, peerEntryAt}
+use Rattle.spec.specs.Book.{cores, nonCores, bodyTotal, sizesAt, isdAsnAt, macAt, peerCount, asEntryAt, peerEntryAt}
 
 pub cores-read : (b : List ℕ) {s : Sizes} → s ≡ sizesAt b → s .cores ≡ cores b
 unfolding sizesAt
@@ -21,34 +20,12 @@ pub total-read : (b : List ℕ) {s : Sizes} → s ≡ sizesAt b → s .bodies �
 unfolding sizesAt
 total-read b q = ap (λ (s : Sizes). s .bodies) q
 
-module _ (b : List ℕ) (k : ℕ) {h : Head} (q : h ≡ headAt b k) where
-  pub time-read : h .timestamp ≡ timestampAt b k
-  unfolding headAt
-  time-read = ap (λ (x : Head). x .timestamp) q
-
-  pub id-read : h .id ≡ idAt b k
-  unfolding headAt
-  id-read = ap (λ (x : Head). x .id) q
-
-  pub count-read : h .entries ≡ entryCountAt b k
-  unfolding headAt
-  count-read = ap (λ (x : Head). x .entries) q
-
-  pub length-read : h .body ≡ bodyLengthAt b k
-  unfolding headAt
-  length-read = ap (λ (x : Head). x .body) q
-
 -- ---- records put together of what was read
 
 pub sizes-are : (b : List ℕ) {c o t : ℕ} → c ≡ be16 b 0 → o ≡ be16 b 2 → t ≡ be32 b 4
     → _≡_ {A = Sizes} (record { cores = c; others = o; bodies = t }) (sizesAt b)
 unfolding sizesAt cores nonCores bodyTotal
 sizes-are b ec eo et = cc
-
-pub head-is : (b : List ℕ) (k : ℕ) {at t i e l : ℕ} → at ≡ headOffset k → t ≡ be32 b at → i ≡ be16 b (at + 4) → e ≡ be16 b (at + 6) → l ≡ be16 b (at + 8)
-    → _≡_ {A = Head} (record { timestamp = t; id = i; entries = e; body = l }) (headAt b k)
-unfolding headAt timestampAt idAt entryCountAt bodyLengthAt
-head-is b k q et ei ee el = cc
 
 pub mac-is : (b : List ℕ) (at i : ℕ) {x0 x1 x2 x3 x4 x5 : ℕ} → x0 ≡ getD b (at + i) 0 → x1 ≡ getD b (at + (i + 1)) 0 → x2 ≡ getD b (at + (i + 2)) 0
     → x3 ≡ getD b (at + (i + 3)) 0 → x4 ≡ getD b (at + (i + 4)) 0 → x5 ≡ getD b (at + (i + 5)) 0

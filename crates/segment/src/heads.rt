@@ -2,7 +2,7 @@
 ghost use mathlib.Core.Path.{_≡_};
 ghost use Prim.Native.Nat.{_+_, _*_, _^_, _≤_, _<_};
 ghost use Rattle.spec.specs.Limits.{sizesSize, headSize};
-ghost use Rattle.spec.specs.Book.{segmentCount, headOffset, timestampAt, idAt, entryCountAt, bodyLengthAt, sizesAt, headAt, lengthsBelow, bodyOffset};
+ghost use Rattle.spec.specs.Book.{segmentCount, headOffset, timestampAt, idAt, entryCountAt, bodyLengthAt, sizesAt, lengthsBelow, bodyOffset};
 use spec::Head;
 use spec::Sizes;
 
@@ -39,23 +39,7 @@ fn head_offset(k: usize) -> usize
     Sizes::SIZE + Head::SIZE * k
 }
 
-pub fn head(book: &[u8], k: u8) -> Head
-    ensures { λ r. ⌜ r ≡ headAt (now (book .entry)) k ⌝ }
-{
-    let at = head_offset(k as usize);
-    let timestamp = octets::be32(book, at);
-    let id = octets::be16_past(book, at, 4);
-    let entries = octets::be16_past(book, at, 6);
-    let body = octets::be16_past(book, at, 8);
-    Head {
-        timestamp: timestamp,
-        id: id,
-        entries: entries,
-        body: body,
-    }
-}
-
-// One field of the head at position k, for callers that need no other.
+// The fields of the head at position k.
 pub fn timestamp(book: &[u8], k: u8) -> u32
     ensures { λ r. ⌜ r ≡ timestampAt (now (book .entry)) k ⌝ }
 {
@@ -65,19 +49,19 @@ pub fn timestamp(book: &[u8], k: u8) -> u32
 pub fn id(book: &[u8], k: u8) -> u16
     ensures { λ r. ⌜ r ≡ idAt (now (book .entry)) k ⌝ }
 {
-    octets::be16_past(book, head_offset(k as usize), 4)
+    octets::be16(book, head_offset(k as usize) + Head::ID)
 }
 
 pub fn entry_count(book: &[u8], k: u8) -> u16
     ensures { λ r. ⌜ r ≡ entryCountAt (now (book .entry)) k ⌝ }
 {
-    octets::be16_past(book, head_offset(k as usize), 6)
+    octets::be16(book, head_offset(k as usize) + Head::ENTRIES)
 }
 
 pub fn body_length(book: &[u8], k: u8) -> u16
     ensures { λ r. ⌜ r ≡ bodyLengthAt (now (book .entry)) k ⌝ }
 {
-    octets::be16_past(book, head_offset(k as usize), 8)
+    octets::be16(book, head_offset(k as usize) + Head::BODY)
 }
 
 // The bytes of the bodies before position k.

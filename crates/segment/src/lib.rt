@@ -12,7 +12,6 @@ pub use entries::peer_entry;
 pub use heads::body_length;
 pub use heads::body_offset;
 pub use heads::entry_count;
-pub use heads::head;
 pub use heads::id;
 pub use heads::segment_count;
 pub use heads::sizes;

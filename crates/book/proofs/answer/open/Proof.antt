@@ -7,13 +7,13 @@ use borrow.Author.Needs.{needs}
 use Rattle.book.proofs.answer.open.Statement.{statement}
 use Rattle.book.proofs.answer.open.Tie as tie
 
-quick-requires : tie.Need-quick-requires
+open-fast-requires : tie.Need-open-fast-requires
 unfolding noOffsets
-quick-requires c κs = refl
+open-fast-requires c κs = refl
 
 returns : tie.Need-returns
 returns c =
-    let q = c .before .quick .ensures (c .if1 .taken) in
+    let q = c .before .open-fast .ensures (c .if1 .taken) in
     (sym (q .0), q .1 ∙ sym (open-accepted _ (sym (q .0)) refl))
 
 returns-2 : tie.Need-returns-2
@@ -23,7 +23,7 @@ pub open-spec : {M : Type 1} → statement M
 open-spec =
     tie.close
     (tie.spec
-    quick-requires
+    open-fast-requires
     returns
     (λ c κs. search needs)
     returns-2)

@@ -10,4 +10,4 @@ unfolding bodyLengthAt
 returns c = cc
 
 pub body-length-spec : {M : Type 1} → statement M
-body-length-spec = tie.close (tie.spec (λ c κs. search needs) (λ c κs. search needs) returns)
+body-length-spec = tie.close (tie.spec (λ c κs. search needs) (λ c. search needs) (λ c κs. search needs) returns)

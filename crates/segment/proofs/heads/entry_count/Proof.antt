@@ -10,4 +10,4 @@ unfolding entryCountAt
 returns c = cc
 
 pub entry-count-spec : {M : Type 1} → statement M
-entry-count-spec = tie.close (tie.spec (λ c κs. search needs) (λ c κs. search needs) returns)
+entry-count-spec = tie.close (tie.spec (λ c κs. search needs) (λ c. search needs) (λ c κs. search needs) returns)

@@ -10,4 +10,4 @@ unfolding idAt
 returns c = cc
 
 pub id-spec : {M : Type 1} → statement M
-id-spec = tie.close (tie.spec (λ c κs. search needs) (λ c κs. search needs) returns)
+id-spec = tie.close (tie.spec (λ c κs. search needs) (λ c. search needs) (λ c κs. search needs) returns)

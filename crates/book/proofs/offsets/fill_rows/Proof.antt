@@ -9,8 +9,8 @@ use Rattle.book.specs.Offsets.{rowsBelow}
 use Rattle.book.proofs.Tables.{rows-step, rows-all}
 use Rattle.book.proofs.Turns.{heads-inside, body-says, bodies-first, bodies-refused, bodies-next, bodies-done, body-fits, not-accepted}
 use borrow.Author.Needs.{needs}
-use Rattle.book.proofs.rows.fill_rows.Statement.{statement}
-use Rattle.book.proofs.rows.fill_rows.Tie as tie
+use Rattle.book.proofs.offsets.fill_rows.Statement.{statement}
+use Rattle.book.proofs.offsets.fill_rows.Tie as tie
 
 abbrev Inv-loop : tie.InvT-loop
 Inv-loop book table₀ count sizes at₀ k₀ table at k = (k ≤ count) × (at < 2 ^ 21 + 65536 * k) × (at ≡ bodyOffset book k) × (table ≡ rowsBelow book k) × (bodiesVerdict book 0 (segmentCount book) ≡ bodiesVerdict book k (count - k))

@@ -1,11 +1,11 @@
--- `quick` meets its contract: its tests make the book one that `scan` takes.
+-- `open_fast` meets its contract: its tests make the book one that `scan` takes.
 -- Assumes nothing.
 use mathlib.Core.Path.{refl}
 use Rattle.spec.proofs.Membership.{not-both}
 use Rattle.book.proofs.Turns.{front}
 use borrow.Author.Needs.{needs}
-use Rattle.book.proofs.once.quick.Statement.{statement}
-use Rattle.book.proofs.once.quick.Tie as tie
+use Rattle.book.proofs.single_pass.open_fast.Statement.{statement}
+use Rattle.book.proofs.single_pass.open_fast.Tie as tie
 
 returns : tie.Need-returns
 returns c q = not-both q refl
@@ -25,8 +25,8 @@ scan-requires c κs = (front _ (c .before .before .before .before .before .befor
 returns-5 : tie.Need-returns-5
 returns-5 c = c .scan .ensures
 
-pub quick-spec : {M : Type 1} → statement M
-quick-spec =
+pub open-fast-spec : {M : Type 1} → statement M
+open-fast-spec =
     tie.close
     (tie.spec
     returns

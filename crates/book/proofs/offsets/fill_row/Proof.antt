@@ -3,15 +3,15 @@
 use mathlib.Core.Path.{_≡_, refl, sym, ap, _∙_}
 use Prim.Native.Nat.{_+_, _*_, _-_, _≤_}
 use native.Mathlib.Omega.{arith}
-use Rattle.spec.specs.Limits.{entrySize, peerSize, maxPeers}
+use Rattle.spec.specs.Limits.{entrySize, peerSize, maxPeers, peerCountOffset}
 use Rattle.spec.specs.Book.{entryOffset, entriesVerdict}
 use Rattle.segment.proofs.Fitting.{offset-step}
 use Rattle.book.specs.Offsets.{withRow}
 use Rattle.book.proofs.Tables.{row-step}
 use Rattle.book.proofs.Turns.{restVerdict, rest-first, rest-lack, rest-peers, rest-next, rest-off, rest-fill, peers-here, size-looked, not-accepted}
 use borrow.Author.Needs.{needs}
-use Rattle.book.proofs.rows.fill_row.Statement.{statement}
-use Rattle.book.proofs.rows.fill_row.Tie as tie
+use Rattle.book.proofs.offsets.fill_row.Statement.{statement}
+use Rattle.book.proofs.offsets.fill_row.Tie as tie
 
 abbrev Inv-loop : tie.InvT-loop
 Inv-loop book sizes table₀ row start end count at₀ i₀ table at i = (i ≤ count) × (at ≤ end + peerSize * maxPeers) × (at ≡ entryOffset book start i) × (table ≡ withRow book start row i table₀) × (entriesVerdict book end start count ≡ restVerdict book end at (count - i))
@@ -27,7 +27,7 @@ returns : tie.Need-returns Inv-loop μ-loop
 returns c = (sym (c .before .before .loop .inv .4 ∙ rest-lack _ _ _ _ _ (c .before .loop-test .taken) (c .if1 .taken)), not-accepted)
 
 cast-peers : tie.Need-cast-peers Inv-loop μ-loop
-cast-peers c = omega (arith, c .shared-slice-known .given (c .before .before .before .loop .at + 25))
+cast-peers c = omega (arith, c .shared-slice-known .given (c .before .before .before .loop .at + peerCountOffset))
 
 returns-2 : tie.Need-returns-2 Inv-loop μ-loop
 returns-2 c = (sym (c .before .before .before .before .loop .inv .4 ∙ rest-peers _ _ _ (c .before .before .if1 .left) (peers-here _ _) _ _ (c .before .before .before .loop-test .taken) (c .if2 .taken)), not-accepted)

@@ -53,7 +53,7 @@ pub(crate) fn fill_row(
         if end < at + AsEntry::SIZE {
             return Verdict::Refused(Refusal::Misfit);
         }
-        let peers = book[at + 25] as usize;
+        let peers = book[at + AsEntry::PEER_COUNT] as usize;
         if Limits::PEERS < peers {
             return Verdict::Refused(Refusal::Peers);
         }

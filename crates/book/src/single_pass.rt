@@ -7,9 +7,9 @@ ghost use Rattle.book.specs.Offsets.{noOffsets, offsetTable};
 ghost use Rattle.book.specs.Sizes.{Fronted};
 use crate::numbers::pair;
 use crate::numbers::wide;
-use crate::rows::PLACES;
-use crate::rows::entry_sizes;
-use crate::rows::fill_row;
+use crate::offsets::PLACES;
+use crate::offsets::entry_sizes;
+use crate::offsets::fill_row;
 use spec::Head;
 use spec::Limits;
 use spec::Sizes;
@@ -28,11 +28,11 @@ fn scan(book: &[u8], table: &mut [u16; PLACES], count: u8, start: usize) -> bool
     let mut row: usize = 0;
     let mut k: u8 = 0;
     while k < count {
-        let n = wide(pair(book, head + 6));
+        let n = wide(pair(book, head + Head::ENTRIES));
         if Limits::ENTRIES < n {
             return false;
         }
-        let end = at + wide(pair(book, head + 8));
+        let end = at + wide(pair(book, head + Head::BODY));
         if book.len() < end {
             return false;
         }
@@ -49,7 +49,7 @@ fn scan(book: &[u8], table: &mut [u16; PLACES], count: u8, start: usize) -> bool
 }
 
 // Only an accepted book is answered with true, and then the offsets of its entries are stored.
-pub(crate) fn quick(book: &[u8], table: &mut [u16; PLACES]) -> bool
+pub(crate) fn open_fast(book: &[u8], table: &mut [u16; PLACES]) -> bool
     requires { ⌜ now table ≡ noOffsets ⌝ }
     ensures { λ r. ⌜ (r ≡ true → (verdict (now (book .entry)) ≡ Accepted) × (now (table .exit) ≡ offsetTable (now (book .entry)))) ⌝ }
 {

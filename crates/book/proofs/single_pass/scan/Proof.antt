@@ -14,8 +14,8 @@ use Rattle.book.specs.Offsets.{rowsBelow}
 use Rattle.book.proofs.Tables.{rows-step, rows-all}
 use Rattle.book.proofs.Turns.{long-all, not-long, body-says, bodies-first, bodies-next, head-count, head-length, front-starts, front-heads, front-body, passed-book}
 use borrow.Author.Needs.{needs}
-use Rattle.book.proofs.once.scan.Statement.{statement}
-use Rattle.book.proofs.once.scan.Tie as tie
+use Rattle.book.proofs.single_pass.scan.Statement.{statement}
+use Rattle.book.proofs.single_pass.scan.Tie as tie
 
 abbrev Inv-loop : tie.InvT-loop
 Inv-loop book table₀ count start sizes at₀ head₀ row₀ k₀ table at head row k = (k ≤ count) × (at ≤ length book) × (at ≡ bodyOffset book k) × (table ≡ rowsBelow book k) × (tooLong book ≡ any (isLong book) (range k (count - k))) × (bodiesVerdict book 0 (segmentCount book) ≡ bodiesVerdict book k (count - k)) × (head ≡ sizesSize + headSize * k) × (row ≡ maxEntries * k)
