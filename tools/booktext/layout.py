@@ -1,4 +1,4 @@
-"""The bytes of a book (docs/SPECIFICATION.md 2): the fields of each record, the limits, reading, writing and the refusals 1 to 7."""
+"""The bytes of a book (document 01): the fields of each record, the limits, reading, writing and the refusals 1 to 7."""
 from dataclasses import dataclass, field
 from typing import NamedTuple
 
@@ -166,7 +166,7 @@ class Reader:
 
 
 def verdict(book):
-    """None for an accepted book, else the refusal that is tested first (docs/SPECIFICATION.md 9.3)."""
+    """None for an accepted book, else the refusal that document 01's order of tests finds first."""
     if len(book) > MAX_BOOK:
         return Refusal(3, f"the book has {len(book)} bytes, at most {MAX_BOOK} are taken")
     if len(book) < SIZES_SIZE:
