@@ -3,7 +3,7 @@ use core::{
     fmt::{self, Display, Formatter},
 };
 
-/// Why a call was refused: the numbered answers of document 01.
+/// Why a call was refused: the refusals of docs/SPECIFICATION.md 9.2.
 ///
 /// Of several that hold, the one tested first is answered; `include/combinator.h` has the order. The
 /// output of a refused call is all zero.
@@ -51,7 +51,7 @@ impl Refusal {
         Self::Stranger,
     ];
 
-    /// The number of document 01's table.
+    /// The number: docs/SPECIFICATION.md 9.2.
     pub const fn number(self) -> u8 {
         self as u8
     }
@@ -62,7 +62,7 @@ impl Refusal {
         Self::ALL.get(index).copied()
     }
 
-    /// The word of document 01's table.
+    /// The word: docs/SPECIFICATION.md 9.2.
     pub const fn word(self) -> &'static str {
         match self {
             Self::Cut => "Cut",

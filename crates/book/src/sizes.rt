@@ -1,4 +1,4 @@
-// The tests of a book before its bodies, in document 01's order.
+// The tests of a book before its bodies, in the order of docs/SPECIFICATION.md 9.3.
 ghost use mathlib.Core.Path.{_≡_};
 ghost use Prim.Native.Nat.{_+_, _*_, _^_, _≤_, _<_};
 ghost use lib.ListN.{length};

@@ -1,5 +1,6 @@
 -- The tables of computed cases end to end: where a case asks for a list or a path, what an exported function returns and leaves, by its
--- contract, is what stands beside the question. (The P cases that ask for the printed text are those of crate `printed`, proofs/Cases.)
+-- contract, is what stands beside the question. The first table is of docs/SPECIFICATION.md 13.1; its cases that ask for the printed text are those
+-- of crate `printed`, proofs/Cases.
 -- Assumes nothing.
 use Prim.Native.Nat.{ℕ}
 use mathlib.Core.Path.{_≡_, ap, _∙_}
@@ -15,7 +16,7 @@ use Rattle.combinator.specs.Exports.{Returned, numberedList, numberedPat
 abbrev bytes-of : Returned → List ℕ
 bytes-of x = x .0 ∷ x .1
 
--- `combinator_list`: a P case, and a case with SHA-256 of the second table
+-- `combinator_list`: a case of the first table, and a case with SHA-256 of the second
 module _ (b : List ℕ) (src dst bytes : ℕ) (expected : List ℕ) (r : ℕ) (out : List ℕ) (q : _≡_ {A = Returned} (r, out) (listReturned b src dst bytes)) where
   pub list-case : Mem (case (list b src dst bytes) expected) table → r ∷ out ≡ expected
   unfolding answer listReturned numberedList

@@ -1,4 +1,5 @@
--- What the exported functions return, and the bytes that the output then holds: listing and assembly in document 01's numbers. ASes come as numbers.
+-- What the exported functions return, and the bytes that the output then holds: listing and assembly in the numbers of docs/SPECIFICATION.md 9.8.
+-- ASes come as numbers.
 -- Assumes nothing.
 use Prim.Native.Nat.{ℕ}
 use mathlib.Core.List.{List}

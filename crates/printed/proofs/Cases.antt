@@ -1,5 +1,5 @@
--- Document 01's P cases end to end, those that ask for the printed text: the pieces that the program hands over, one after the other, are what
--- stands beside the question.
+-- The cases of docs/SPECIFICATION.md 13.1 end to end, those that ask for the printed text: the pieces that the program hands over, one after the
+-- other, are what stands beside the question.
 -- Assumes nothing.
 use Prim.Native.Nat.{ℕ, _*_}
 use mathlib.Core.Path.{_≡_, _∙_}

@@ -22,7 +22,7 @@ use Rattle.spec.specs.Order.{solutions}
 use Rattle.spec.specs.Assembly.{CombinedPath, combinedPath, outcome}
 use Rattle.spec.specs.Records.{solutionOctets, pathOctets, slots}
 
--- the numbered answers
+-- 9.2: the numbers of the refusals
 abbrev pub refusalNumber : Refusal → ℕ
 refusalNumber Cut = 1
 refusalNumber Surplus = 2
@@ -35,15 +35,16 @@ refusalNumber Full = 8
 refusalNumber Small = 9
 refusalNumber Stranger = 10
 
--- the answer about a book as a number: 0 for an accepted one, or the refusal's
+-- 9.8: the answer about a book as a number: 0 for an accepted one, or the refusal's
 abbrev pub verdictNumber : Verdict → ℕ
 verdictNumber Accepted = 0
 verdictNumber (RefusedBook r) = refusalNumber r
 
--- listing's and assembly's answers as the numbers that the exported functions return: a refusal is told by being past `refusals`
+-- 9.8, 11.1: listing's and assembly's answers as the numbers that the exported functions return: a refusal is told by being past `refusals`
 abbrev pub refusals : ℕ
 refusals = 65536
 
+-- 9.8: listing's, and assembly's
 abbrev pub listNumber : ListAnswer → ℕ
 listNumber (Count n) = n
 listNumber (RefusedList r) = refusals + refusalNumber r
@@ -54,7 +55,7 @@ pathNumber Loop = 1
 pathNumber Bare = 2
 pathNumber (RefusedPath r) = refusals + refusalNumber r
 
--- an answer, and the bytes that the output then holds
+-- 9.1: an answer, and the bytes that the output then holds
 abbrev pub Listed : Type 0
 Listed = ListAnswer × List ℕ
 
@@ -63,48 +64,55 @@ Assembled = PathAnswer × List ℕ
 
 -- ---- listing; `bytes` is the output's length
 
--- only the number returns, with the output zero
+-- 9.7: a refusal leaves the output zero
 unfoldable pub refusedList : ℕ → Refusal → Listed
 refusedList bytes r = (RefusedList r, replicate bytes 0)
 
+-- 9.5: of an accepted book: Full, or the count and the records of what was found
 unfoldable pub listingOf : ℕ → List (List Edge) → Listed
 listingOf bytes found =
     if ltb (slots bytes) (length found) then refusedList bytes Full
     else (Count (length found), padded bytes (flatMap solutionOctets found))
 
+-- 9.5: by the tests of the book
 abbrev pub listingOn : Verdict → ℕ → List (List Edge) → Listed
 listingOn Accepted bytes found = listingOf bytes found
 listingOn (RefusedBook r) bytes found = refusedList bytes r
 
+-- 9.5: listing, on every input
 unfoldable pub listing : (List ℕ → List ℕ) → List ℕ → IsdAsn → IsdAsn → ℕ → Listed
 listing digest b src dst bytes = listingOn (verdict b) bytes (solutions digest b src dst)
 
 -- ---- assembly of the solution whose record is given
 
+-- 9.7: a refusal leaves the output zero
 unfoldable pub refusedPath : ℕ → Refusal → Assembled
 refusedPath bytes r = (RefusedPath r, replicate bytes 0)
 
--- what an outcome leaves in the output: the path's record; Loop and Bare leave zeros
+-- 9.7: what an outcome leaves in the output: the path's record; Loop and Bare leave zeros
 abbrev pub leftBy : PathAnswer → ℕ → CombinedPath → List ℕ
 leftBy Path bytes p = padded bytes (pathOctets p)
 leftBy Loop bytes p = replicate bytes 0
 leftBy Bare bytes p = replicate bytes 0
 leftBy (RefusedPath r) bytes p = replicate bytes 0
 
+-- 9.6: the answer to a chain
 unfoldable pub pathAnswer : List ℕ → ℕ → List Edge → Assembled
 pathAnswer b bytes c = (outcome (combinedPath b c), leftBy (outcome (combinedPath b c)) bytes (combinedPath b c))
 
--- the chain that the record is of; a record of no chain is a stranger's
+-- 9.6: the chain that the record is of; a record of no chain is a stranger's
 unfoldable pub pathOfRecord : List ℕ → ℕ → List ℕ → List (List Edge) → Assembled
 pathOfRecord b bytes given [] = refusedPath bytes Stranger
 pathOfRecord b bytes given (c ∷ cs) =
     let others = pathOfRecord b bytes given cs in
     if sameList given (solutionOctets c) then pathAnswer b bytes c else others
 
+-- 9.6: by the tests of the book, then Small
 abbrev pub assemblyOn : Verdict → List ℕ → ℕ → List ℕ → List (List Edge) → Assembled
 assemblyOn Accepted b bytes given found =
     if ltb bytes pathSize then refusedPath bytes Small else pathOfRecord b bytes given found
 assemblyOn (RefusedBook r) b bytes given found = refusedPath bytes r
 
+-- 9.6: assembly, on every input
 unfoldable pub assembly : List ℕ → IsdAsn → IsdAsn → List ℕ → ℕ → Assembled
 assembly b src dst given bytes = assemblyOn (verdict b) b bytes given (chains b src dst)

@@ -20,21 +20,22 @@ use Rattle.spec.specs.Octets.{be16, be32, be64}
 
 -- ---- sizes and heads
 
--- C and N: how many core and non-core segments
+-- 2.1: C and N, how many core and non-core segments
 unfoldable pub cores : List ℕ → ℕ
 cores b = be16 b 0
 
 unfoldable pub nonCores : List ℕ → ℕ
 nonCores b = be16 b 2
 
--- B: the bytes of all bodies
+-- 2.1: B, the bytes of all bodies
 unfoldable pub bodyTotal : List ℕ → ℕ
 bodyTotal b = be32 b 4
 
+-- 2.1: C + N
 unfoldable pub segmentCount : List ℕ → ℕ
 segmentCount b = cores b + nonCores b
 
--- where the head of the segment at position k starts, and its four fields
+-- 2.2: where the head of the segment at position k starts, and its four fields
 unfoldable pub headOffset : ℕ → ℕ
 headOffset k = sizesSize + headSize * k
 
@@ -50,36 +51,38 @@ entryCountAt b k = be16 b (headOffset k + 6)
 unfoldable pub bodyLengthAt : List ℕ → ℕ → ℕ
 bodyLengthAt b k = be16 b (headOffset k + 8)
 
--- the sizes, and a head, as a whole
+-- 2.1: the sizes as a whole
 unfoldable pub sizesAt : List ℕ → Sizes
 sizesAt b = record { cores = cores b; others = nonCores b; bodies = bodyTotal b }
 
+-- 2.2: a head as a whole
 unfoldable pub headAt : List ℕ → ℕ → Head
 headAt b k = record { timestamp = timestampAt b k; id = idAt b k; entries = entryCountAt b k; body = bodyLengthAt b k }
 
--- the bytes of the bodies before position k
+-- 2.3: the bytes of the bodies before position k
 unfoldable pub lengthsBelow : List ℕ → ℕ → ℕ
 lengthsBelow b zero = 0
 lengthsBelow b (suc k) = lengthsBelow b k + bodyLengthAt b k
 
--- where the body at position k starts
+-- 2.3: where the body at position k starts
 unfoldable pub bodyOffset : List ℕ → ℕ → ℕ
 bodyOffset b k = headOffset (segmentCount b) + lengthsBelow b k
 
--- the length that the sizes ask for
+-- 2.1: the length that the sizes ask for
 unfoldable pub wholeLength : List ℕ → ℕ
 wholeLength b = headOffset (segmentCount b) + bodyTotal b
 
 -- ---- the answer about the book alone
 
+-- 2.4: how many peers the entry at an offset has
 unfoldable pub peerCount : List ℕ → ℕ → ℕ
 peerCount b at = getD b (at + peerCountOffset) 0
 
--- past the entry at an offset and its peers
+-- 2.4: past the entry at an offset and its peers
 unfoldable pub entryEnd : List ℕ → ℕ → ℕ
 entryEnd b at = at + entrySize + peerSize * peerCount b at
 
--- the entries of a body from an offset on, as many as are left; the body ends at `end`. At each entry: Misfit if its own bytes are
+-- 9.4: the entries of a body from an offset on, as many as are left; the body ends at `end`. At each entry: Misfit if its own bytes are
 -- lacking, Peers, Misfit if its peers are lacking; after the last entry Misfit if bytes remain
 unfoldable pub entriesVerdict : List ℕ → ℕ → ℕ → ℕ → Verdict
 entriesVerdict b end at zero = if ltb at end then Refused Misfit else Accepted
@@ -90,30 +93,30 @@ entriesVerdict b end at (suc left) =
     else if ltb end (entryEnd b at) then Refused Misfit
     else next
 
--- the body at position k: as many entries as its head says, in as many bytes
+-- 9.4: the body at position k: as many entries as its head says, in as many bytes
 unfoldable pub bodyVerdict : List ℕ → ℕ → Verdict
 bodyVerdict b k = entriesVerdict b (bodyOffset b k + bodyLengthAt b k) (bodyOffset b k) (entryCountAt b k)
 
--- the first refusal of the two, if there is one
+-- 9.3: the first refusal of the two, if there is one
 infixr 4 _andThen_
 abbrev pub _andThen_ : Verdict → Verdict → Verdict
 Accepted andThen v = v
 (Refused r) andThen v = Refused r
 
--- the bodies from position k on, as many as are left
+-- 9.3: the bodies from position k on, as many as are left
 unfoldable pub bodiesVerdict : List ℕ → ℕ → ℕ → Verdict
 bodiesVerdict b k zero = Accepted
 bodiesVerdict b k (suc left) = bodyVerdict b k andThen bodiesVerdict b (k + 1) left
 
--- the head at position k has an entry count above the limit
+-- 9.3: the head at position k has an entry count above the limit
 unfoldable pub isLong : List ℕ → ℕ → Bool
 isLong b k = ltb maxEntries (entryCountAt b k)
 
--- some head of the book is
+-- 9.3: some head of the book is
 unfoldable pub tooLong : List ℕ → Bool
 tooLong b = any (isLong b) (range 0 (segmentCount b))
 
--- the tests in their order: 3, 1 (8 bytes), 4, 1, 2, 5 over all heads, 7 (sum), bodies by position
+-- 2.7, 9.3: the tests in their order; a book is accepted where none fails
 unfoldable pub verdict : List ℕ → Verdict
 verdict b =
     if ltb maxBook (length b) then Refused Oversize
@@ -127,12 +130,12 @@ verdict b =
 
 -- ---- the segments
 
--- an entry with its peers
+-- 2.6: an entry with its peers
 pub record Entry : Type 0 where
   pub own : AsEntry
   pub peers : List PeerEntry
 
--- a segment, with the position at which it stands and its body's bytes, by which equal segments are told
+-- 2.6: a segment, with the position at which it stands and its body's bytes, by which equal segments are told
 pub record Segment : Type 0 where
   pub core : Bool
   pub position : ℕ
@@ -141,14 +144,16 @@ pub record Segment : Type 0 where
   pub body : List ℕ
   pub entries : List Entry
 
+-- 1.3: the AS at an offset
 unfoldable pub isdAsnAt : List ℕ → ℕ → IsdAsn
 isdAsnAt b at = record { 0 = be64 b at }
 
+-- 1.4: the MAC at an offset
 unfoldable pub macAt : List ℕ → ℕ → List ℕ
 macAt b at =
     getD b at 0 ∷ getD b (at + 1) 0 ∷ getD b (at + 2) 0 ∷ getD b (at + 3) 0 ∷ getD b (at + 4) 0 ∷ getD b (at + 5) 0 ∷ []
 
--- the entry at an offset: AS 8, AS MTU 4, ingress MTU 2, ingress 2, egress 2, units 1, MAC 6, peer count 1
+-- 2.4: the entry at an offset, without its peers
 unfoldable pub asEntryAt : List ℕ → ℕ → AsEntry
 asEntryAt b at =
     record {
@@ -159,7 +164,7 @@ asEntryAt b at =
       peers = peerCount b at;
     }
 
--- the peer at an offset: peer AS 8, peer interface 2, peer MTU 2, units 1, ingress 2, egress 2, MAC 6
+-- 2.5: the peer at an offset
 unfoldable pub peerEntryAt : List ℕ → ℕ → PeerEntry
 peerEntryAt b at =
     record {
@@ -169,15 +174,15 @@ peerEntryAt b at =
       hop = record { units = getD b (at + 12) 0; ingress = be16 b (at + 13); egress = be16 b (at + 15); mac = macAt b (at + 17) };
     }
 
--- where peer p of the entry at an offset starts
+-- 2.5: where peer p of the entry at an offset starts
 unfoldable pub peerOffset : ℕ → ℕ → ℕ
 peerOffset at p = at + entrySize + peerSize * p
 
--- peer p of the entry at an offset
+-- 2.5: peer p of the entry at an offset
 unfoldable pub peerOfEntryAt : List ℕ → ℕ → ℕ → PeerEntry
 peerOfEntryAt b at p = peerEntryAt b (peerOffset at p)
 
--- the entry at an offset, with its peers
+-- 2.4: the entry at an offset, with its peers
 unfoldable pub entryAt : List ℕ → ℕ → Entry
 entryAt b at =
     record {
@@ -185,17 +190,17 @@ entryAt b at =
       peers = map (peerOfEntryAt b at) (range 0 (peerCount b at));
     }
 
--- where entry i of a body that starts at an offset starts
+-- 2.4: where entry i of a body that starts at an offset starts
 unfoldable pub entryOffset : List ℕ → ℕ → ℕ → ℕ
 entryOffset b at zero = at
 entryOffset b at (suc i) = entryEnd b (entryOffset b at i)
 
--- as many entries from an offset on
+-- 2.4: as many entries from an offset on
 unfoldable pub entriesAt : List ℕ → ℕ → ℕ → List Entry
 entriesAt b at zero = []
 entriesAt b at (suc left) = entryAt b at ∷ entriesAt b (entryEnd b at) left
 
--- the segment at position k; cores come first
+-- 2.6: the segment at position k; cores come first
 unfoldable pub segmentAt : List ℕ → ℕ → Segment
 segmentAt b k =
     record {
@@ -207,6 +212,6 @@ segmentAt b k =
       entries = entriesAt b (bodyOffset b k) (entryCountAt b k);
     }
 
--- all segments, by position
+-- 2.6: all segments, by position
 unfoldable pub segments : List ℕ → List Segment
 segments b = map (segmentAt b) (range 0 (segmentCount b))

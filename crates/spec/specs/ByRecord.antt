@@ -7,10 +7,10 @@ use Rattle.spec.specs.Basics.{range}
 use Rattle.spec.specs.Order.{compareSolutions}
 use Rattle.spec.specs.Records.{recordEdge, solutionIn}
 
--- the edges that a record's count says
+-- 8.5: the edges that a record's count says
 unfoldable pub edgesIn : List ℕ → List SolutionEdge
 edgesIn r = map (recordEdge r) (range 0 (solutionIn r .count))
 
--- the order of two records
+-- 5.6: the order of two records
 unfoldable pub compareRecords : (List ℕ → List ℕ) → List ℕ → List ℕ → List ℕ → Ordering
 compareRecords digest b r s = compareSolutions digest b (solutionIn r .cost) (edgesIn r) (solutionIn s .cost) (edgesIn s)

@@ -3,6 +3,7 @@
 use Rattle.spec.specs.declared.Limits.{Limits}
 use Rattle.spec.specs.Limits.{maxBook, maxSegments, maxEntries, maxPeers, maxSlots, sizesSize, headSize, entrySize, peerCountOffset, peerSize, maxEdges, edgeSize, solutionHeadSize, solutionSize, infoSize, hopSize, interfaceSize, pathHeadSize, pathSize}
 
+-- 11.2: what the contract of `Limits::new` ties the code's constants to
 abbrev pub limits : Limits
 limits =
     record {

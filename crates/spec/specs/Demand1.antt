@@ -1,4 +1,4 @@
--- Demand 1 as a statement about listing and assembly: on every input the output keeps its length, and whatever is no list or path leaves it zero.
+-- Demand 1 as a statement about listing and assembly.
 -- Assumes nothing.
 use Prim.Native.Nat.{ℕ}
 use mathlib.Core.Path.{_≡_}
@@ -10,6 +10,7 @@ use Rattle.spec.specs.declared.ListAnswer.the-variants.{Refused as Refus
 use Rattle.spec.specs.declared.PathAnswer.the-variants.{Path}
 use Rattle.spec.specs.Answers.{listing, assembly}
 
+-- 12.1: on every input the output keeps its length, and whatever is no list or path leaves it zero
 pub record Demand1 (digest : List ℕ → List ℕ) (b : List ℕ) (src dst : IsdAsn) (given : List ℕ) (bytes : ℕ) : Type 0 where
   pub list-length : length (listing digest b src dst bytes .1) ≡ bytes
   pub list-refused : (r : Refusal) → listing digest b src dst bytes .0 ≡ RefusedList r → listing digest b src dst bytes .1 ≡ replicate bytes 0

@@ -20,11 +20,12 @@ use Rattle.spec.specs.Records.{solutionOctets, pathOctets, slots}
 use Rattle.spec.specs.Router.{RouterAgrees}
 use Rattle.spec.specs.Answers.{listing, assembly}
 
--- each before all that follow it
+-- 12.3: each before all that follow it
 abbrev pub InOrder : (List ℕ → List ℕ) → List ℕ → List (List Edge) → Type 0
 InOrder digest b [] = Unit
 InOrder digest b (c ∷ cs) = ((d : List Edge) → List·Memᴰ d cs → compareChains digest b c d ≡ Ordering·lt) × InOrder digest b cs
 
+-- 12.3: what is said of every accepted book
 pub record Demand3 (digest : List ℕ → List ℕ) (b : List ℕ) (src dst : IsdAsn) : Type 0 where
   -- the solutions are the chains
   pub sound : (c : List Edge) → List·Memᴰ c (solutions digest b src dst) → IsChain b src dst c

@@ -15,9 +15,11 @@ use Rattle.spec.specs.Book.{Entry, Segment, segments, entryAt, peerEntry
 
 -- ---- vertices
 
+-- 1.3: the same AS
 unfoldable pub sameAs : IsdAsn → IsdAsn → Bool
 sameAs a b = eqb (a .0) (b .0)
 
+-- 3.1: the same vertex
 unfoldable pub sameVertex : Vertex → Vertex → Bool
 sameVertex (AS a) (AS b) = sameAs a b
 sameVertex (AS a) (Peering l i p j) = false
@@ -26,35 +28,35 @@ sameVertex (Peering l i p j) (Peering l′ i′ p′ j′) = sameAs l l′ && eq
 
 -- ---- a segment's entries
 
--- what stands past the end of a list of entries or peers: all zero, as read in an empty book
+-- 2.6: what stands past the end of a list of entries or peers: all zero, as read in an empty book
 unfoldable pub noEntry : Entry
 noEntry = entryAt [] 0
 
 unfoldable pub noPeer : PeerEntry
 noPeer = peerEntryAt [] 0
 
--- entry i of a segment, and its AS
+-- 2.6: entry i of a segment, and its AS
 unfoldable pub entryOf : Segment → ℕ → Entry
 entryOf seg i = getD (seg .entries) i noEntry
 
 unfoldable pub asOf : Segment → ℕ → IsdAsn
 asOf seg i = entryOf seg i .own .local
 
--- the leaf is the last entry
+-- 2.6: the leaf is the last entry
 unfoldable pub leafAs : Segment → IsdAsn
 leafAs seg = asOf seg (length (seg .entries) - 1)
 
--- peer p of entry i
+-- 2.6: peer p of entry i
 unfoldable pub peerOf : Segment → ℕ → ℕ → PeerEntry
 peerOf seg i p = getD (entryOf seg i .peers) p noPeer
 
 -- ---- insertions, in the order in which they are made
 
--- construction direction: an edge arrives at an AS equal to the leaf's
+-- 3.6: an edge is in construction direction where it arrives at an AS equal to the leaf's
 unfoldable pub inConstruction : Segment → Vertex → Bool
 inConstruction seg dst = sameVertex dst (AS (leafAs seg))
 
--- an edge of the segment
+-- 3.2: an edge of the segment
 unfoldable pub edgeOf : Segment → Vertex → Vertex → ℕ → ℕ → ℕ → Edge
 edgeOf seg src dst weight shortcut peer =
     record {
@@ -68,7 +70,7 @@ edgeOf seg src dst weight shortcut peer =
       core = seg .core;
     }
 
--- first AS to last AS and back
+-- 3.3: first AS to last AS and back
 unfoldable pub coreInsertions : Segment → List Edge
 coreInsertions seg =
     let n : ℕ = length (seg .entries) in
@@ -77,7 +79,7 @@ coreInsertions seg =
     if eqb n 0 then []
     else edgeOf seg first last (n - 1) 0 0 ∷ edgeOf seg last first (n - 1) 0 0 ∷ []
 
--- leaf AS to AS of i and back, where i is not the leaf
+-- 3.4: leaf AS to AS of i and back, where i is not the leaf
 unfoldable pub asInsertions : Segment → ℕ → List Edge
 asInsertions seg i =
     let n : ℕ = length (seg .entries) in
@@ -86,7 +88,7 @@ asInsertions seg i =
     if eqb i (n - 1) then []
     else edgeOf seg leaf there (n - 1 - i) i 0 ∷ edgeOf seg there leaf (n - 1 - i) i 0 ∷ []
 
--- leaf AS to the peering end of peer p of entry i, and from the other side's to the leaf AS
+-- 3.5: leaf AS to the peering end of peer p of entry i, and from the other side's to the leaf AS
 unfoldable pub peerInsertions : Segment → ℕ → ℕ → List Edge
 peerInsertions seg i p =
     let n : ℕ = length (seg .entries) in
@@ -97,11 +99,11 @@ peerInsertions seg i p =
     ∷ edgeOf seg (Peering (link .peer) (link .interface) local (link .hop .ingress)) leaf (n - 1 - i) i (p + 1)
     ∷ []
 
--- at an entry its AS edges before its peers', peers from 0 up
+-- 3.7: at an entry its AS edges before its peers', peers from 0 up
 unfoldable pub entryInsertions : Segment → ℕ → List Edge
 entryInsertions seg i = asInsertions seg i ++ flatMap (peerInsertions seg i) (range 0 (length (entryOf seg i .peers)))
 
--- entries from the leaf down
+-- 3.7: entries from the leaf down
 unfoldable pub insertions : Segment → List Edge
 insertions seg =
     if seg .core then coreInsertions seg
@@ -109,37 +111,38 @@ insertions seg =
 
 -- ---- what stands
 
+-- 3.7: the same start and the same end
 unfoldable pub sameEnds : Edge → Edge → Bool
 sameEnds e f = sameVertex (e .src) (f .src) && sameVertex (e .dst) (f .dst)
 
--- edges with equal ends overwrite: of such insertions the last stands
+-- 3.7: of insertions with equal ends the last stands
 unfoldable pub lasting : List Edge → List Edge
 lasting [] = []
 lasting (e ∷ later) = let rest = lasting later in if any (sameEnds e) later then rest else e ∷ rest
 
+-- 2.8: equal segments have one kind, timestamp, id and body
 unfoldable pub sameBool : Bool → Bool → Bool
 sameBool a b = if a then b else not b
 
--- kind, timestamp, id and body
 unfoldable pub sameSegment : Segment → Segment → Bool
 sameSegment s t =
     sameBool (s .core) (t .core) && eqb (s .timestamp) (t .timestamp) && eqb (s .id) (t .id) && sameList (s .body) (t .body)
 
--- t is equal to s and stands at a lower position
+-- 2.8: t is equal to s and stands at a lower position
 unfoldable pub isEarlier : Segment → Segment → Bool
 isEarlier s t = ltb (t .position) (s .position) && sameSegment s t
 
--- equal segments count once, under the first position
+-- 2.8: equal segments count once, under the first position
 unfoldable pub isFirst : List Segment → Segment → Bool
 isFirst segs s = not (any (isEarlier s) segs)
 
 unfoldable pub firsts : List Segment → List Segment
 firsts segs = filter (isFirst segs) segs
 
--- the stored edges of one segment
+-- 3.8: the stored edges of one segment
 unfoldable pub storedOf : Segment → List Edge
 storedOf seg = lasting (insertions seg)
 
--- all stored edges of a book
+-- 3.8: all stored edges of a book
 unfoldable pub storedEdges : List ℕ → List Edge
 storedEdges b = flatMap storedOf (firsts (segments b))

@@ -20,39 +20,40 @@ use Rattle.spec.specs.Book.{isdAsnAt}
 use Rattle.spec.specs.Order.{cost, solutionEdge}
 use Rattle.spec.specs.Assembly.{CombinedPath}
 
+-- 8.1, 8.3: a direction or a flag as a number
 unfoldable pub bit : Bool → ℕ
 bit b = if b then 1 else 0
 
 -- ---- a solution
 
--- position, shortcut, peer index plus 1 or 0 for none, direction (1 construction)
+-- 8.1: position, shortcut, peer index plus 1 or 0 for none, direction (1 construction)
 unfoldable pub edgeOctets : SolutionEdge → List ℕ
 edgeOctets e = e .position ∷ e .shortcut ∷ e .peer ∷ bit (e .construction) ∷ []
 
--- cost 2, edge count 1, zero 1, then the edges; unused ones are zero
+-- 8.1: cost 2, edge count 1, zero 1, then the edges; unused ones are zero
 unfoldable pub solutionOctets : List Edge → List ℕ
 solutionOctets c = padded solutionSize (octets2 (cost c) ++ (length c ∷ 0 ∷ []) ++ flatMap edgeOctets (map solutionEdge c))
 
--- read back: the edge at an offset
+-- 8.5: read back: the edge at an offset
 unfoldable pub edgeAt : List ℕ → ℕ → SolutionEdge
 edgeAt r at = record { position = getD r at 0; shortcut = getD r (at + 1) 0; peer = getD r (at + 2) 0; construction = eqb (getD r (at + 3) 0) 1 }
 
--- where edge k of a record starts
+-- 8.5: where edge k of a record starts, and that edge
 unfoldable pub edgeOffset : ℕ → ℕ
 edgeOffset k = solutionHeadSize + edgeSize * k
 
 unfoldable pub recordEdge : List ℕ → ℕ → SolutionEdge
 recordEdge r k = edgeAt r (edgeOffset k)
 
--- a record as a whole
+-- 8.5: a record as a whole
 unfoldable pub solutionIn : List ℕ → Solution
 solutionIn r = record { cost = be16 r 0; count = getD r 2 0; edges = map (recordEdge r) (range 0 maxEdges) }
 
--- what an unused edge reads as: all zero
+-- 8.5: what an unused edge reads as: all zero
 unfoldable pub noEdge : SolutionEdge
 noEdge = edgeAt [] 0
 
--- what the record of a chain says
+-- 8.5: what the record of a chain says
 unfoldable pub solutionOf : List Edge → Solution
 solutionOf c =
     record {
@@ -61,35 +62,37 @@ solutionOf c =
       edges = map solutionEdge c ++ replicate (maxEdges - length c) noEdge;
     }
 
--- how many solutions fit in so many bytes
+-- 8.2: how many solutions fit in so many bytes
 unfoldable pub slots : ℕ → ℕ
 slots bytes = min maxSlots (bytes / solutionSize)
 
 -- ---- a path
 
--- flags 1 with construction = 1, peering = 2; hop count 1; id 2; timestamp 4
+-- 8.3: flags 1 with construction = 1, peering = 2; hop count 1; id 2; timestamp 4
 unfoldable pub infoOctets : InfoField → List ℕ
 infoOctets i =
     ((bit (i .construction) + 2 * bit (i .peering)) ∷ i .hops ∷ []) ++ octets2 (i .id) ++ octets4 (i .timestamp)
 
--- units, ingress, egress, MAC
+-- 8.3: units, ingress, egress, MAC
 unfoldable pub hopOctets : HopField → List ℕ
 hopOctets h = (h .units ∷ []) ++ octets2 (h .ingress) ++ octets2 (h .egress) ++ h .mac
 
+-- 8.3: an AS
 unfoldable pub asOctets : IsdAsn → List ℕ
 asOctets a = octets8 (a .0)
 
--- what stands past the end of a list of interfaces
+-- 8.3: what stands past the end of a list of interfaces
 unfoldable pub noInterface : PathInterface
 noInterface = record { local = isdAsnAt [] 0; id = 0 }
 
+-- 8.3: an interface's AS, and its id
 unfoldable pub interfaceAsOctets : PathInterface → List ℕ
 interfaceAsOctets i = asOctets (i .local)
 
 unfoldable pub interfaceIdOctets : PathInterface → List ℕ
 interfaceIdOctets i = octets2 (i .id)
 
--- what a path record says before its infos
+-- 8.3: what a path record says before its infos
 unfoldable pub pathHead : CombinedPath → Path
 pathHead p =
     record {
@@ -102,12 +105,12 @@ pathHead p =
       last = getD (p .interfaces) (length (p .interfaces) - 1) noInterface .local;
     }
 
--- counts of infos, hops, interfaces (1 each), zero 1; MTU 2; expiry 4; first and last interface's AS 8 + 8
+-- 8.3: counts of infos, hops, interfaces (1 each), zero 1; MTU 2; expiry 4; first and last interface's AS 8 + 8
 unfoldable pub pathHeadOctets : Path → List ℕ
 pathHeadOctets h =
     (h .infos ∷ h .hops ∷ h .interfaces ∷ 0 ∷ []) ++ octets2 (h .mtu) ++ octets4 (h .expiry) ++ asOctets (h .first) ++ asOctets (h .last)
 
--- then infos; hops; all interface ASes, then all interface ids
+-- 8.3: then infos; hops; all interface ASes, then all interface ids
 unfoldable pub pathOctets : CombinedPath → List ℕ
 pathOctets p =
     pathHeadOctets (pathHead p)
@@ -116,7 +119,7 @@ pathOctets p =
     ++ flatMap interfaceAsOctets (p .interfaces)
     ++ flatMap interfaceIdOctets (p .interfaces)
 
--- read back
+-- 8.5: read back: what stands before the infos
 unfoldable pub pathHeadIn : List ℕ → Path
 pathHeadIn r =
     record {
@@ -129,14 +132,14 @@ pathHeadIn r =
       last = isdAsnAt r 18;
     }
 
--- where the interface ASes start, after as many infos and hops as the record says, and where the interface ids do
+-- 8.5: where the interface ASes start, after as many infos and hops as the record says, and where the interface ids do
 unfoldable pub asesOffset : List ℕ → ℕ
 asesOffset r = pathHeadSize + infoSize * pathHeadIn r .infos + hopSize * pathHeadIn r .hops
 
 unfoldable pub idsOffset : List ℕ → ℕ
 idsOffset r = asesOffset r + 8 * pathHeadIn r .interfaces
 
--- interface k
+-- 8.5: interface k, and all interfaces
 unfoldable pub recordInterface : List ℕ → ℕ → PathInterface
 recordInterface r k = record { local = isdAsnAt r (asesOffset r + 8 * k); id = be16 r (idsOffset r + 2 * k) }
 

@@ -1,4 +1,4 @@
-//! The crate against the library: document 01's example, the stored answers, refusals, text forms.
+//! The crate against the library: the worked example, the stored answers, refusals, text forms.
 
 mod book;
 mod examples;
