@@ -73,7 +73,7 @@ def segments(book):
     """Those of an accepted book, equal ones once."""
     known, found = set(), []
     for position, s in enumerate(layout.read(book)):
-        key = (s.core, s.timestamp, s.id, layout.body(s))
+        key = (s.core, s.timestamp, s.id, s.body())
         if key in known:
             continue
         known.add(key)

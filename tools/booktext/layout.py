@@ -5,7 +5,8 @@ to the Rust beside it and to the proved code. Bytes are only laid out and read h
 """
 import struct
 from collections import namedtuple
-from dataclasses import field, make_dataclass
+from dataclasses import dataclass, field, make_dataclass
+from operator import attrgetter
 from typing import NamedTuple
 
 
@@ -42,18 +43,25 @@ class Record:
         self.odd = [k for k, f in enumerate(fields) if f.style != "bytes" and f.size not in self.CODES]
         self.form = struct.Struct(">" + "".join(f"{f.size}s" if f.style == "bytes" or k in self.odd else self.CODES[f.size] for k, f in enumerate(fields)))
         self.size = self.form.size
+        self.values_of = attrgetter(*names)
+
+    def laid(self, values):
+        if self.odd:
+            values = [v.to_bytes(self.fields[k].size, "big") if k in self.odd else v for k, v in enumerate(values)]
+        return self.form.pack(*values)
 
     def pack(self, *values, **named):
         """Fields that are not given are zero."""
-        values = list(self.values(*values, **named))
-        for k in self.odd:
-            values[k] = values[k].to_bytes(self.fields[k].size, "big")
-        return self.form.pack(*values)
+        return self.laid(self.values(*values, **named))
+
+    def pack_of(self, made):
+        """Of what has the fields as attributes."""
+        return self.laid(self.values_of(made))
 
     def unpack(self, data, at=0):
-        values = list(self.form.unpack_from(data, at))
-        for k in self.odd:
-            values[k] = int.from_bytes(values[k], "big")
+        values = self.form.unpack_from(data, at)
+        if self.odd:
+            values = [int.from_bytes(v, "big") if k in self.odd else v for k, v in enumerate(values)]
         return self.values(*values)
 
     def get(self, data, at, name):
@@ -132,41 +140,48 @@ def constants():
 
 # ---- books
 
-def of_fields(name, fields, *more):
-    return make_dataclass(name, [(f.attribute, type(f.zero), field(default=f.zero)) for f in fields] + list(more))
+def of_fields(name, fields, *lists):
+    """A class with a field's value in each attribute, and lists, which are empty unless given."""
+    return make_dataclass(name, [(f.attribute, type(f.zero), field(default=f.zero)) for f in fields] +
+                          [(x, list, field(default_factory=list)) for x in lists])
 
 
-def some(kind):
-    """A field of a list that is empty where none is given."""
-    return kind, list, field(default_factory=list)
-
-
-# What is counted in the book is counted here by the length of a list.
+# What a book counts is here the length of a list.
 SEGMENT_FIELDS = tuple(f for f in HEAD.fields if f not in (HEAD.of.entry_count, HEAD.of.body_length))
 ENTRY_FIELDS = tuple(f for f in ENTRY.fields if f != ENTRY.of.peer_count)
 PEER_FIELDS = PEER.fields
-Peer = of_fields("Peer", PEER_FIELDS)
-Entry = of_fields("Entry", ENTRY_FIELDS, some("peers"))
-Segment = of_fields("Segment", SEGMENT_FIELDS, some("entries"), ("core", bool, field(default=False)))
+
+
+class Peer(of_fields("PeerFields", PEER_FIELDS)):
+    def bytes(self):
+        return PEER.pack_of(self)
+
+
+class Entry(of_fields("EntryFields", ENTRY_FIELDS, "peers")):
+    @property
+    def peer_count(self):
+        return len(self.peers)
+
+    def bytes(self):
+        return ENTRY.pack_of(self) + b"".join(p.bytes() for p in self.peers)
+
+
+@dataclass
+class Segment(of_fields("SegmentFields", SEGMENT_FIELDS, "entries")):
+    core: bool = False
+
+    def body(self):
+        return b"".join(e.bytes() for e in self.entries)
 
 
 def named(made, fields):
     return {f.attribute: getattr(made, f.attribute) for f in fields}
 
 
-def entry_bytes(entry):
-    peers = b"".join(PEER.pack(**named(p, PEER_FIELDS)) for p in entry.peers)
-    return ENTRY.pack(**named(entry, ENTRY_FIELDS), peer_count=len(entry.peers)) + peers
-
-
-def body(segment):
-    return b"".join(map(entry_bytes, segment.entries))
-
-
 def book(cores, others):
     """The bytes of a book of core and of non-core segments."""
     segments = cores + others
-    bodies = [body(s) for s in segments]
+    bodies = [s.body() for s in segments]
     heads = [HEAD.pack(**named(s, SEGMENT_FIELDS), entry_count=len(s.entries), body_length=len(b)) for s, b in zip(segments, bodies)]
     return COUNTS.pack(len(cores), len(others), sum(map(len, bodies))) + b"".join(heads + bodies)
 
