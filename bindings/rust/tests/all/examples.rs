@@ -1,4 +1,4 @@
-//! The books of examples/, first of them document 01's.
+//! The books of examples/, first of them the specification's.
 
 use std::fmt::Write;
 
@@ -84,7 +84,7 @@ fn reversed_ends() {
     assert_eq!((info.id, info.flags()), (0x1234, 1));
 }
 
-/// What document 01 prints.
+/// What the specification prints.
 fn printed(src: IsdAsn, dst: IsdAsn, book: &[u8]) -> Result<String, Refusal> {
     let mut slots = vec![0; LIST_SIZE];
     let mut room = [0; Path::SIZE];

@@ -1,4 +1,4 @@
-//! The crate against the library: document 01's example, the stored answers, refusals, text forms.
+//! The crate against the library: the worked example, the stored answers, refusals, text forms.
 
 mod book;
 mod examples;
@@ -7,6 +7,10 @@ mod stored;
 mod text;
 
 use std::path::PathBuf;
+
+/// The bytes of an ISD-AS, and of a MAC.
+const AS_SIZE: usize = 8;
+const MAC_SIZE: usize = 6;
 
 /// A file of the repository.
 fn file(name: &str) -> Vec<u8> {
@@ -48,7 +52,7 @@ impl<'a> Reader<'a> {
         self.number(size) as usize
     }
 
-    fn mac(&mut self) -> [u8; 6] {
-        self.take(6).try_into().unwrap()
+    fn mac(&mut self) -> [u8; MAC_SIZE] {
+        self.take(MAC_SIZE).try_into().unwrap()
     }
 }
