@@ -403,8 +403,8 @@ class Drawing(unittest.TestCase):
 
     def test_text(self):
         words = self.dot(self.picture())
-        for expected in ("5 solutions, 5 paths", "1767264000", "2026-01-01T10:40:00Z", "1-ff00:0:131 2&gt;2 1-ff00:0:121 3&gt;3 1-ff00:0:112 2&gt;1 1-ff00:0:141",
-                         "style=dashed", "destination", *COLOURS[:5]):
+        for expected in ("5 solutions, 5 paths", "1767264000", "2026-01-01T10:40:00Z",
+                         "1-ff00:0:131 2&gt;2 1-ff00:0:121 3&gt;3 1-ff00:0:112 2&gt;1 1-ff00:0:141", "style=dashed", "destination", *COLOURS[:5]):
             self.assertIn(expected, words)
         self.assertNotIn(COLOURS[5], words)
 

@@ -334,8 +334,9 @@ static void draw_book(void)
         }
         build_segment(&b, i < cores, one_in(6) ? (uint32_t)draw() : one_in(6) ? UINT32_MAX - pick(400) : 1000000, (unsigned)draw() & UINT16_MAX);
         for (j = 0; j < entries; j++) {
-            unsigned in = tidy && j == 0 ? 0 : one_in(zero) ? 0 : 1 + pick(interfaces), eg = tidy && j + 1 == entries ? 0 : one_in(zero) ? 0 : 1 + pick(interfaces);
-            build_entry(&b, as[pick(ases)], in, eg, draw());
+            unsigned ingress = (tidy && j == 0) || one_in(zero) ? 0 : 1 + pick(interfaces);
+            unsigned egress = (tidy && j + 1 == entries) || one_in(zero) ? 0 : 1 + pick(interfaces);
+            build_entry(&b, as[pick(ases)], ingress, egress, draw());
             if (one_in(5))
                 put32(b.entry + COMBINATOR_ENTRY_MTU, one_in(2) ? UINT16_MAX + 1 + pick(3) : (uint32_t)draw());
             put16(b.entry + COMBINATOR_ENTRY_INGRESS_MTU, one_in(3) ? 0 : one_in(4) ? (unsigned)draw() : 1280 + pick(200));

@@ -103,7 +103,8 @@ impl<'a> Assembled<'a> {
 
 /// Makes the path of a solution.
 ///
-/// `src`, `dst` and `book` are those of the listing. `solution` is a [`Solution`], or the bytes of one; other bytes are refused as [`Refusal::Stranger`]. A solution of a list that is too long
+/// `src`, `dst` and `book` are those of the listing. `solution` is a [`Solution`], or the bytes of one;
+/// other bytes are refused as [`Refusal::Stranger`]. A solution of a list that is too long
 /// ([`Refusal::Full`]) is taken too. `out` has at least [`Path::SIZE`] bytes.
 pub fn assemble<'a>(
     src: IsdAsn,
