@@ -217,11 +217,17 @@ class TextErrors(unittest.TestCase):
 
     def test_limits(self):
         head = "core timestamp 1 id 0001\n"
-        self.wrong(head * 65, "65: more than 64 segments (refusal 4, Crowded)")
-        self.wrong(head + f"{ENTRY_LINE}\n" * 17, "18: more than 16 entries in segment 0 (refusal 5, Long)")
-        self.wrong(head + f"{ENTRY_LINE}\n" + f"{PEER_LINE}\n" * 5, "7: more than 4 peers at entry 0 of segment 0 (refusal 6, Peers)")
-        self.wrong((head + (f"{ENTRY_LINE}\n" + f"{PEER_LINE}\n" * 4) * 16) * 64,
-                   "2623: the book has 61462 bytes up to here, at most 61440 are taken (refusal 3, Oversize)")
+        segments, entries, peers = layout.MAX_SEGMENTS, layout.MAX_ENTRIES, layout.MAX_PEERS
+        self.wrong(head * (segments + 1), f"{segments + 1}: more than {segments} segments (refusal 4, Crowded)")
+        self.wrong(head + f"{ENTRY_LINE}\n" * (entries + 1), f"{entries + 2}: more than {entries} entries in segment 0 (refusal 5, Long)")
+        self.wrong(head + f"{ENTRY_LINE}\n" + f"{PEER_LINE}\n" * (peers + 1),
+                   f"{peers + 3}: more than {peers} peers at entry 0 of segment 0 (refusal 6, Peers)")
+        full = (head + (f"{ENTRY_LINE}\n" + f"{PEER_LINE}\n" * peers) * entries) * segments
+        sizes, line, size = {"core": HEAD.size, "entry": ENTRY.size, "peer": PEER.size}, 0, COUNTS.size
+        while size <= layout.MAX_BOOK:
+            size += sizes[full.splitlines()[line].split()[0]]
+            line += 1
+        self.wrong(full, f"{line}: the book has {size} bytes up to here, at most {layout.MAX_BOOK} are taken (refusal 3, Oversize)")
 
     def test_command(self):
         for run in (book, alone):
@@ -243,24 +249,29 @@ class Refusals(unittest.TestCase):
         self.refused(bytes(7), 1, "byte 7", "the book has 7 bytes, its sizes alone take 8")
         self.refused(b"", 1, "byte 0", "the book has 0 bytes, its sizes alone take 8")
         self.refused(COUNTS.pack(65, 0, 0), 4, "", "65 core and 0 non-core segments are 65, at most 64 are taken")
-        sum_of = "0 core and 1 non-core segments with bodies of 52 bytes make a book of 70"
+        size = ENTRY.size
+        whole, last = 18 + 2 * size, 18 + size + ENTRY.at.peer_count
+        sum_of = f"0 core and 1 non-core segments with bodies of {2 * size} bytes make a book of {whole}"
         self.refused(worked[:17], 1, "segment 0 (non-core), byte 17", f"{sum_of}, this one ends at 17, in a head")
         self.refused(worked[:18], 1, "segment 0 (non-core), entry 0, byte 18", f"{sum_of}, this one ends at 18")
-        self.refused(worked[:69], 1, "segment 0 (non-core), entry 1, byte 69", f"{sum_of}, this one ends at 69")
-        self.refused(worked + b"\0", 2, "byte 70", f"{sum_of}, this one has 71")
-        self.refused(numbers([(1, entry()), (17, entry())]), 5, "segment 1 (non-core), byte 18", "its head counts 17 entries, at most 16 are taken")
-        self.refused(numbers([(2, entry() + entry(5))]), 6, "segment 0 (non-core), entry 1, byte 69", "it counts 5 peers, at most 4 are taken")
+        self.refused(worked[:-1], 1, f"segment 0 (non-core), entry 1, byte {whole - 1}", f"{sum_of}, this one ends at {whole - 1}")
+        self.refused(worked + b"\0", 2, f"byte {whole}", f"{sum_of}, this one has {whole + 1}")
+        most = layout.MAX_ENTRIES
+        self.refused(numbers([(1, entry()), (most + 1, entry())]), 5, "segment 1 (non-core), byte 18",
+                     f"its head counts {most + 1} entries, at most {most} are taken")
+        self.refused(numbers([(2, entry() + entry(5))]), 6, f"segment 0 (non-core), entry 1, byte {last}", "it counts 5 peers, at most 4 are taken")
         uneven = bytearray(numbers([(1, entry()), (1, entry())]))
         HEAD.put(uneven, COUNTS.size, "body_length", len(entry()) - 1)
-        self.refused(bytes(uneven), 7, "byte 4", "the body lengths in the heads sum to 51, the sizes say 52")
-        self.refused(numbers([(2, entry() + bytes(25))]), 7, "segment 0 (non-core), entry 1, byte 44",
-                     "25 bytes left in the body for an entry of 26 (its head counts 2 entries)")
-        self.refused(numbers([(0, b""), (1, entry(2, bytes(45)))]), 7, "segment 1 (non-core), entry 0, byte 54", "45 bytes left in the body for 2 peers of 23")
-        self.refused(numbers([(1, entry() + b"\0")]), 7, "segment 0 (non-core), byte 44", "1 byte left in the body after its 1 entry")
+        self.refused(bytes(uneven), 7, "byte 4", f"the body lengths in the heads sum to {2 * size - 1}, the sizes say {2 * size}")
+        self.refused(numbers([(2, entry() + bytes(size - 1))]), 7, f"segment 0 (non-core), entry 1, byte {18 + size}",
+                     f"{size - 1} bytes left in the body for an entry of {size} (its head counts 2 entries)")
+        self.refused(numbers([(0, b""), (1, entry(2, bytes(45)))]), 7, f"segment 1 (non-core), entry 0, byte {28 + size}",
+                     "45 bytes left in the body for 2 peers of 23")
+        self.refused(numbers([(1, entry() + b"\0")]), 7, f"segment 0 (non-core), byte {18 + size}", "1 byte left in the body after its 1 entry")
 
     def test_order(self):
         # Long at any head before the sum, the sum before any body, bodies by position.
-        long = bytearray(numbers([(1, entry(5)), (17, b"")]))
+        long = bytearray(numbers([(1, entry(5)), (layout.MAX_ENTRIES + 1, b"")]))
         self.assertEqual(refusal.verdict(bytes(long)).number, 5)
         COUNTS.put(long, 0, "bodies", 0)
         self.assertEqual(refusal.verdict(bytes(long)).number, 2)
@@ -291,9 +302,10 @@ class Refusals(unittest.TestCase):
         self.assertEqual(set(seen), {0, *range(layout.CUT, layout.MISFIT + 1)})
 
     def test_command(self):
-        status, out, _ = book("check", given=numbers([(1, entry()), (17, entry())]))
+        most = layout.MAX_ENTRIES
+        status, out, _ = book("check", given=numbers([(1, entry()), (most + 1, entry())]))
         self.assertEqual((status, out.decode()),
-                         (1, "refused 5 (Long), at segment 1 (non-core), byte 18: its head counts 17 entries, at most 16 are taken\n"))
+                         (1, f"refused 5 (Long), at segment 1 (non-core), byte 18: its head counts {most + 1} entries, at most {most} are taken\n"))
         status, out, said = book("decode", given=bytes(7))
         self.assertEqual((status, out, said),
                          (1, b"", "book: <standard input>: refused 1 (Cut), at byte 7: the book has 7 bytes, its sizes alone take 8\n"))
@@ -344,7 +356,7 @@ if 0001ff0000000110 5      1-ff00:0:110#5
         self.assertEqual((status, out.decode()), (1, "refused 1 (Cut), at byte 7: the book has 7 bytes, its sizes alone take 8\n"))
         status, out, _ = book("list", "--plain", "--program", MODEL, "1-1", "1-2", given=bytes(7))
         self.assertEqual((status, out), (1, b"refused 1\n"))
-        self.assertEqual(printed.refusal_words(8, bytes(8)), "refused 8 (Full): more than 4096 solutions")
+        self.assertEqual(printed.refusal_words(8, bytes(8)), f"refused 8 (Full): more than {layout.MAX_SOLUTIONS} solutions")
 
     def test_program(self):
         status, _, said = book("list", "--program", "/no/such/list", "1-1", "1-2", given=bytes(8))

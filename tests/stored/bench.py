@@ -104,14 +104,18 @@ BENCH["C + N = 64"] = [
 ]
 
 
-# Entry i of a long segment: AS i + 1, ingress 100 + i (0 at the first), egress 200 + i (0 at the last), ingress MTU 1500 + i
+# Entry i of a segment of the most entries: AS i + 1, ingress 100 + i (0 at the first), egress 200 + i (0 at the last), ingress MTU 1500 + i
 # (0 at the first), units 100 − i, and a MAC that starts with bit i, so that the fold over the entries below k sets the bits below k.
+MOST = layout.MAX_ENTRIES
+LEAF = MOST - 1
+
+
 def long_entry(i, n):
     return entry(i + 1, 1600, 1500 + i if i else 0, 100 + i if i else 0, 200 + i if i < n - 1 else 0, 100 - i, f"{1 << i % 16:04x}03040506")
 
 
 def long_hop(i):
-    return hop(100 - i, 100 + i if i else 0, 200 + i if i < 15 else 0, f"{1 << i:04x}03040506")
+    return hop(100 - i, 100 + i if i else 0, 200 + i if i < LEAF else 0, f"{1 << i:04x}03040506")
 
 
 def long_interfaces(i):
@@ -119,27 +123,31 @@ def long_interfaces(i):
     return [(i + 1, 200 + i), (i + 1, 100 + i)]
 
 
-LONGEST = book([], [segment(1000000, 0x8000, *[long_entry(i, 16) for i in range(16)])])
-LONGER = book([], [segment(1000000, 0x8000, *[long_entry(i, 17) for i in range(17)])])
-DOWN = list(range(15, -1, -1))
-ALL_INTERFACES = [(16, 115)] + [x for i in DOWN[1:15] for x in long_interfaces(i)] + [(1, 200)]
-# The least units are those of entry 15: floor(86 × 675 / 2) = 29025.
-BENCH["16 entries pass, 17 are refused"] = [
-    # Against construction the bits below 15: 8000 xor 7fff = ffff. MTU: ingress MTU of entry 1.
-    solved(16, 1, LONGEST, (record(15, (0, 0, None, AGAINST)),
-                            path(1501, 1029025, [(AGAINST, 16, 0xFFFF, 1000000)], [long_hop(i) for i in DOWN], ALL_INTERFACES))),
+LONGEST = book([], [segment(1000000, 0x8000, *[long_entry(i, MOST) for i in range(MOST)])])
+LONGER = book([], [segment(1000000, 0x8000, *[long_entry(i, MOST + 1) for i in range(MOST + 1)])])
+DOWN = list(range(LEAF, -1, -1))
+ALL_INTERFACES = [(MOST, 100 + LEAF)] + [x for i in DOWN[1:LEAF] for x in long_interfaces(i)] + [(1, 200)]
+# The least units are those of the leaf. Of 16 entries: floor(86 × 675 / 2) = 29025.
+EXPIRY = 1000000 + (100 - LEAF + 1) * 675 // 2
+# Against construction the bits below the leaf. Of 16 entries: 8000 xor 7fff = ffff.
+FOLDED = 0x8000 ^ ((1 << LEAF) - 1)
+# Shortcut at entry 7, which shows its egress alone.
+SHORTCUT, HOPS = 7, MOST - 7
+SHORT_INTERFACES = [(MOST, 100 + LEAF)] + [x for i in DOWN[1:LEAF - SHORTCUT] for x in long_interfaces(i)] + [(8, 207)]
+BENCH[f"{MOST} entries pass, {MOST + 1} are refused"] = [
+    # MTU: ingress MTU of entry 1.
+    solved(MOST, 1, LONGEST, (record(LEAF, (0, 0, None, AGAINST)),
+                              path(1501, EXPIRY, [(AGAINST, MOST, FOLDED, 1000000)], [long_hop(i) for i in DOWN], ALL_INTERFACES))),
     # In construction direction no MAC is folded in.
-    solved(1, 16, LONGEST, (record(15, (0, 0, None, ALONG)),
-                            path(1501, 1029025, [(ALONG, 16, 0x8000, 1000000)], [long_hop(i) for i in DOWN[::-1]], ALL_INTERFACES[::-1]))),
-    # Shortcut at entry 7: 15 − 7 = 8 links, 9 hops. Entry 7 shows its egress alone, and its ingress MTU does not count: 1508 of entry 8.
-    solved(16, 8, LONGEST, (record(8, (0, 7, None, AGAINST)),
-                            path(1508, 1029025, [(AGAINST, 9, 0xFFFF, 1000000)], [long_hop(i) for i in DOWN[:9]],
-                                 [(16, 115)] + [x for i in DOWN[1:8] for x in long_interfaces(i)] + [(8, 207)]))),
+    solved(1, MOST, LONGEST, (record(LEAF, (0, 0, None, ALONG)),
+                              path(1501, EXPIRY, [(ALONG, MOST, 0x8000, 1000000)], [long_hop(i) for i in DOWN[::-1]], ALL_INTERFACES[::-1]))),
+    # The ingress MTU of entry 7 does not count: 1508 of entry 8.
+    solved(MOST, 8, LONGEST, (record(LEAF - SHORTCUT, (0, SHORTCUT, None, AGAINST)),
+                              path(1508, EXPIRY, [(AGAINST, HOPS, FOLDED, 1000000)], [long_hop(i) for i in DOWN[:HOPS]], SHORT_INTERFACES))),
     # The same way back: the bits below 7, 8000 xor 007f = 807f.
-    solved(8, 16, LONGEST, (record(8, (0, 7, None, ALONG)),
-                            path(1508, 1029025, [(ALONG, 9, 0x807F, 1000000)], [long_hop(i) for i in DOWN[:9]][::-1],
-                                 ([(16, 115)] + [x for i in DOWN[1:8] for x in long_interfaces(i)] + [(8, 207)])[::-1]))),
-    *refused_by_both(LONG, 16, 1, LONGER),
+    solved(8, MOST, LONGEST, (record(LEAF - SHORTCUT, (0, SHORTCUT, None, ALONG)),
+                              path(1508, EXPIRY, [(ALONG, HOPS, 0x807F, 1000000)], [long_hop(i) for i in DOWN[:HOPS]][::-1], SHORT_INTERFACES[::-1]))),
+    *refused_by_both(LONG, MOST, 1, LONGER),
 ]
 
 
