@@ -146,7 +146,8 @@ class RoundTrip(unittest.TestCase):
         peer = Peer(isd_as=C, interface=2, mtu=1400, units=63, ingress=9, egress=5, mac=bytes.fromhex("f0f1f2f3f4f5"))
         above.peers.append(peer)
         written = bytes.fromhex("0001ff0000000112" "0002" "0578" "3f" "0009" "0005" "f0f1f2f3f4f5")
-        self.assertIn(bytes.fromhex("010203040506" "01") + written, layout.write([Segment(entries=[above, leaf])]))
+        self.assertEqual(above.bytes()[ENTRY.size:], written)
+        self.assertEqual(refusal.read(layout.write([Segment(entries=[above, leaf])])), [Segment(entries=[above, leaf])])
 
     def test_limits(self):
         data = generate.full(random.Random("full"))
@@ -197,10 +198,12 @@ class TextErrors(unittest.TestCase):
         self.wrong(head + "entry", "3: entry without its ISD-AS")
         self.wrong(head + "entry mtu 1500", "3: 'mtu' is no ISD-AS such as 1-ff00:0:110 or 0001ff0000000110")
         self.wrong("core timestamp 1", "1: core lacks id")
-        self.wrong(head + "entry 1-ff00:0:110 mtu 1500 units 63", "3: entry lacks ingress-mtu, ingress, egress, mac")
+        fields = [f.name for f in layout.ENTRY_FIELDS[1:]]
+        lacking = ", ".join(name for name in fields if name not in ("mtu", "units"))
+        self.wrong(head + "entry 1-ff00:0:110 mtu 1500 units 63", f"3: entry lacks {lacking}")
         self.wrong("core timestamp 1 id 0001 timestamp 2", "1: timestamp stands twice")
         self.wrong("core timestamp 1 id", "1: id without a value")
-        self.wrong(head + ENTRY_LINE + " colour 5", "3: entry has no field 'colour', its fields are mtu, ingress-mtu, ingress, egress, units, mac")
+        self.wrong(head + ENTRY_LINE + " colour 5", f"3: entry has no field 'colour', its fields are {', '.join(fields)}")
         self.wrong("core timestamp 1 id 0001 \xff".encode("latin-1"), "1: not UTF-8 text")
 
     def test_numbers(self):
@@ -433,14 +436,13 @@ class Drawing(unittest.TestCase):
 
     def test_unlisted(self):
         # The middle AS shows no interface, so that the path leaps over it.
-        words = "non-core timestamp 0 id 0000\n" + "".join(
-            f"entry 1-{k} mtu 1500 ingress-mtu 0 ingress {i} egress {e} units 0 mac 000000000000\n" for k, i, e in ((1, 0, 5), (2, 0, 0), (3, 7, 0)))
-        segments = text.parse(words.encode())
-        source, destination = isd_as.parse("1-3"), isd_as.parse("1-1")
+        top, middle, leaf = (isd_as.parse(f"1-{k}") for k in (1, 2, 3))
+        segments = [Segment(entries=[Entry(isd_as=top, mtu=1500, egress=5), Entry(isd_as=middle, mtu=1500), Entry(isd_as=leaf, mtu=1500, ingress=7)])]
+        source, destination = leaf, top
         answer = printed.parse(model.printed(asked(source, destination, layout.write(segments))))
         picture = Picture(segments, source, destination, answer, {})
         self.assertEqual([link.kind for link in picture.links if link.paths], ["unlisted"])
-        self.assertEqual([picture.level[isd_as.parse(f"1-{k}")] for k in (1, 2, 3)], [0, 1, 2])
+        self.assertEqual([picture.level[a] for a in (top, middle, leaf)], [0, 1, 2])
         self.assertIn("style=dotted", self.dot(picture))
 
     def test_generated(self):
