@@ -124,14 +124,13 @@ struct input input_at(const uint8_t *at, size_t size)
 
 int next_case(const uint8_t *batch, size_t len, size_t *at, struct input *c)
 {
-    const size_t front = 4; /* the length before each case */
     size_t size;
     if (*at == len)
         return 0;
-    if (len - *at < front || len - *at - front < (size = number32(batch + *at)))
+    if (len - *at < FRONT_SIZE || len - *at - FRONT_SIZE < (size = (size_t)number(batch + *at, FRONT_SIZE)))
         fail("the batch ends within a case");
-    *c = input_at(batch + *at + front, size);
-    *at += front + size;
+    *c = input_at(batch + *at + FRONT_SIZE, size);
+    *at += FRONT_SIZE + size;
     return 1;
 }
 

@@ -23,8 +23,10 @@ void *grow(void *old, size_t *room, size_t size);
 
 uint8_t *read_file(const char *name, size_t *len);
 
-/* A case: source, destination, book. Source and destination take ENDS_SIZE bytes. */
+/* A case: source, destination, book. Source and destination take ENDS_SIZE bytes. In a batch and in a stored file its length stands
+ * before it, in FRONT_SIZE bytes. */
 #define ENDS_SIZE (2 * COMBINATOR_AS_SIZE)
+#define FRONT_SIZE 4
 struct input {
     uint64_t src, dst;
     const uint8_t *book;

@@ -29,7 +29,7 @@ static size_t take_number(struct file *f, int size)
 
 static struct input take_input(struct file *f)
 {
-    size_t n = take_number(f, 4);
+    size_t n = take_number(f, FRONT_SIZE);
     struct input c = input_at(take(f, n), n);
     if (!c.book)
         fail("%s: an input that ends before the book", f->name);

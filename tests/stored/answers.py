@@ -15,11 +15,11 @@ from collections import Counter
 from dataclasses import replace
 
 import form
-import batch
-import cases
-import gen
 from booktext import layout
 from booktext.layout import ENDS, PATH_HEAD, ROUTE
+import batch  # noqa: E402
+import cases  # noqa: E402
+import gen  # noqa: E402
 
 SEED = "stored"
 PROFILES = {"tiny": 900, "small": 900, "copies": 700, "peering": 900, "three": 700, "network": 500, "loops": 500, "bare": 300,
