@@ -42,7 +42,7 @@ def entries(n):
     return seg(*[e(A if i == n - 1 else B, 1, 1) for i in range(n)])
 
 
-# Settled by number: sections 9, 10.6 and 11 of the specification.
+# Settled by number: docs/SPECIFICATION.md 9.2, and what follows from the worked example of 10.6.
 case("the counts alone", A, B)
 case("a byte less", A, B, raw=bytes(COUNTS.size - 1))
 case("a core more than the most", A, B, raw=COUNTS.pack(MAX_SEGMENTS + 1, 0, 0))

@@ -1,9 +1,9 @@
 #!/usr/bin/env python3
-"""Statistics of an oracle run, and the router's walk (section 7 of the specification) over the Rust's own paths.
+"""Statistics of an oracle run, and the router's walk (docs/SPECIFICATION.md 7) over the Rust's own paths.
 
     stats.py CASES.batch ORACLE.out [INDEX]
 
-Exit status 1 if a list is out of the specification's order or a router walk fails.
+Exit status 1 if a list is out of order (docs/SPECIFICATION.md 5) or a router walk fails.
 """
 import sys
 from collections import Counter, defaultdict

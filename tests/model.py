@@ -1,5 +1,5 @@
 #!/usr/bin/env python3
-"""A small model of listing, assembly and the printed list, written from the specification alone.
+"""A small model of listing, assembly and the printed list, written from docs/SPECIFICATION.md alone.
 
 It shares no code with crates/, and with tools/ only the layout of the bytes: tests and examples use it to tell what the others should answer. Run
 as a program it stands in for `list`: source, destination and book on standard input, the printed list on standard output.
@@ -21,7 +21,7 @@ Edge = namedtuple("Edge", "segment start end shortcut peer weight")
 Path = namedtuple("Path", "infos hops interfaces mtu expiry")
 
 
-# ---- the book
+# ---- the book: docs/SPECIFICATION.md 2 and 9.3
 
 def body_verdict(body, entries):
     at = 0
@@ -83,7 +83,7 @@ def segments(book):
     return found
 
 
-# ---- edges and chains
+# ---- edges and chains: docs/SPECIFICATION.md 3 and 4
 
 def stored(segment):
     """The stored edges of one segment; of those with equal ends the last stands."""
@@ -134,7 +134,7 @@ def chains(found, source, destination):
     return complete
 
 
-# ---- order
+# ---- order: docs/SPECIFICATION.md 5
 
 def fingerprint(segment):
     return hashlib.sha256(b"".join(ROUTE.pack(e.isd_as, e.hop.ingress, e.hop.egress) for e in segment.entries)).digest()
@@ -154,7 +154,7 @@ def solutions(book, source, destination):
     return sorted(chains(segments(book), source, destination), key=place)
 
 
-# ---- assembly
+# ---- assembly: docs/SPECIFICATION.md 6
 
 def in_construction(edge):
     return edge.end == (edge.segment.entries[-1].isd_as,)
@@ -210,7 +210,7 @@ def path(chain):
                 min([PATH_HEAD.of.mtu.most] + [m for p in parts for m in p[3]]), min(p[4] for p in parts))
 
 
-# ---- the printed list
+# ---- the printed list: docs/SPECIFICATION.md 10
 
 def printed(data):
     if len(data) < ENDS.size:

@@ -32,7 +32,7 @@ LIST = ROOT / "target" / "bin" / "list"
 
 A, B, C = 0x0001FF0000000111, 0x0001FF0000000110, 0x0001FF0000000112
 
-# The specification's worked example, 10.6. Here and below, bytes and numbers that are expected stand as they are, not by name.
+# The worked example of docs/SPECIFICATION.md 10.6. Here and below, bytes and numbers that are expected stand as they are, not by name.
 WORKED_INPUT = bytes.fromhex(
     "0001ff0000000111" "0001ff0000000110"
     "0000" "0001" "00000034"

@@ -35,7 +35,7 @@ void build_again(struct build *b, int core, uint32_t timestamp, unsigned id);
 /* Writes the book to `out`, which has BUILD_ROOM bytes or enough; its length. */
 size_t build_book(const struct build *b, uint8_t *out);
 
-/* The specification's worked example, from AS_SOURCE to AS_DESTINATION. */
+/* The worked example of docs/SPECIFICATION.md 10.6, from AS_SOURCE to AS_DESTINATION. */
 #define AS_SOURCE UINT64_C(0x0001ff0000000111)
 #define AS_DESTINATION UINT64_C(0x0001ff0000000110)
 

@@ -52,7 +52,7 @@ const uint8_t *path_ases(const uint8_t *path);
 const uint8_t *path_ids(const uint8_t *path);
 size_t path_length(const uint8_t *path);
 
-/* The specification's router (section 7) on a path's bytes: feeds the path to a router and compares ids, infos and hops with the book. NULL where
+/* The router of docs/SPECIFICATION.md 7 on a path's bytes: feeds the path to a router and compares ids, infos and hops with the book. NULL where
  * all holds, else what does not. */
 const char *router_fault(const struct input *c, const uint8_t *record, const uint8_t *path);
 

@@ -60,7 +60,7 @@ static void sha256(const uint8_t *data, size_t len, uint8_t digest[DIGEST_SIZE])
         put32(digest + 4 * i, h[i]);
 }
 
-/* ---- the book */
+/* ---- the book: docs/SPECIFICATION.md 9.3 */
 
 static unsigned segments_of(const uint8_t *book)
 {
@@ -127,7 +127,7 @@ static uint32_t verdict(const uint8_t *book, size_t len)
     return 0;
 }
 
-/* ---- stored edges */
+/* ---- stored edges: docs/SPECIFICATION.md 3 */
 
 /* An AS, or a peering end. */
 struct vertex {
@@ -255,7 +255,7 @@ static int by_start(const void *a, const void *b)
     return compare_vertices(&((const struct edge *)a)->start, &((const struct edge *)b)->start);
 }
 
-/* ---- chains */
+/* ---- chains: docs/SPECIFICATION.md 4 */
 
 /* The first edge that leaves v, if any does. */
 static size_t first_from(const struct vertex *v)
@@ -310,7 +310,7 @@ static void extend(const struct chain *c, const struct vertex *at)
     }
 }
 
-/* ---- order */
+/* ---- order: docs/SPECIFICATION.md 5 */
 
 static int in_order(const void *x, const void *y)
 {
@@ -332,7 +332,7 @@ static int in_order(const void *x, const void *y)
     return c;
 }
 
-/* ---- records */
+/* ---- records: docs/SPECIFICATION.md 8.1 */
 
 static int along(const struct edge *e)
 {
@@ -356,7 +356,7 @@ static void put_record(uint8_t *r, const struct chain *c)
     }
 }
 
-/* ---- working out a book once */
+/* ---- working out a book once: docs/SPECIFICATION.md 2 */
 
 static struct hop hop_at(const uint8_t *units, const uint8_t *ingress, const uint8_t *egress, const uint8_t *mac)
 {
@@ -491,7 +491,7 @@ const uint8_t *model_records(uint64_t src, uint64_t dst, const uint8_t *book, si
     return m.record;
 }
 
-/* ---- listing */
+/* ---- listing: docs/SPECIFICATION.md 9.5 */
 
 uint32_t model_list(uint64_t src, uint64_t dst, const uint8_t *book, size_t book_len, uint8_t *out, size_t out_len)
 {
@@ -507,7 +507,7 @@ uint32_t model_list(uint64_t src, uint64_t dst, const uint8_t *book, size_t book
     return (uint32_t)m.chains;
 }
 
-/* ---- assembly */
+/* ---- assembly: docs/SPECIFICATION.md 6 and 9.6 */
 
 struct interface {
     uint64_t as;

@@ -1,4 +1,4 @@
-/* The specification once more, in plain C: what the library's answers are held to on every book, also where the Rust has
+/* docs/SPECIFICATION.md once more, in plain C: what the library's answers are held to on every book, also where the Rust has
  * no answer. It shares no code with crates/; sizes and places are the header's. tests/compare holds it to the Rust itself. */
 #ifndef MODEL_H
 #define MODEL_H

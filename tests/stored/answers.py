@@ -5,7 +5,7 @@
 
 ORACLE is the program of oracle/. Books are generated from a fixed seed, from the smallest up, and one is kept
 where it shows something that few kept ones show: see `shows`. The Rust leaves the order within a run of ties open;
-there the records are put in the specification's order (5.3), by positions edge by edge.
+there the records are put in the order of docs/SPECIFICATION.md 5.3, by positions edge by edge.
 """
 import hashlib
 import subprocess

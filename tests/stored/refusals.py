@@ -3,8 +3,8 @@
 
     refusals.py OUT
 
-Each case has its number beside it, by the specification. `verdict` works out those about a book alone once more from its table (9.2), in its
-order of tests (9.3, 9.4), and must agree. Of the rest of the repository it needs the layout of the bytes alone.
+Each case has its number beside it, by docs/SPECIFICATION.md 9.2. `verdict` works out those about a book alone once more, in the order of tests
+of 9.3 and 9.4, and must agree. Of the rest of the repository it needs the layout of the bytes alone.
 """
 import sys
 

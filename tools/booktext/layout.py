@@ -1,7 +1,7 @@
 """Books, solution records and path records as bytes: every size, place, limit and number of theirs that Python code uses, each once.
 
-It follows docs/SPECIFICATION.md: books in section 2, records in 8, refusals in 9, limits in 11. tests/layout holds it to include/combinator.h,
-to the Rust beside it and to the proved code. Bytes are only laid out and read here; what is accepted, and what it means, is said elsewhere.
+Books stand in docs/SPECIFICATION.md 2, records in 8, answers in 9, limits in 11. tests/layout holds all this to include/combinator.h, to the Rust
+beside it and to the proved code. Bytes are only laid out and read here; what is accepted, and what it means, is said elsewhere.
 """
 import struct
 from collections import namedtuple

@@ -63,7 +63,7 @@ class Reader:
 
 
 def verdict(book):
-    """None for an accepted book, else the refusal that the specification's order of tests (9.3) finds first."""
+    """None for an accepted book, else the refusal that the order of tests in docs/SPECIFICATION.md 9.3 finds first."""
     if len(book) > MAX_BOOK:
         return Refusal(OVERSIZE, f"the book has {len(book)} bytes, at most {MAX_BOOK} are taken")
     if len(book) < COUNTS.size:

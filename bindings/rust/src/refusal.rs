@@ -5,7 +5,7 @@ use core::{
 
 use crate::layout::*;
 
-/// Why a call was refused: the numbered answers of the specification.
+/// Why a call was refused: the refusals of docs/SPECIFICATION.md 9.2.
 ///
 /// Of several that hold, the one tested first is answered; `include/combinator.h` has the order. The
 /// output of a refused call is all zero.
@@ -50,7 +50,7 @@ impl Refusal {
         Self::Stranger,
     ];
 
-    /// The number of the specification's table.
+    /// The number: docs/SPECIFICATION.md 9.2.
     pub const fn number(self) -> u8 {
         self as u8
     }
@@ -61,7 +61,7 @@ impl Refusal {
         Self::ALL.get(index).copied()
     }
 
-    /// The word of the specification's table.
+    /// The word: docs/SPECIFICATION.md 9.2.
     pub const fn word(self) -> &'static str {
         match self {
             Self::Cut => "Cut",

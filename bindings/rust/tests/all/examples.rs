@@ -1,4 +1,4 @@
-//! The books of examples/, first of them the specification's.
+//! The books of examples/, first of them the worked example of docs/SPECIFICATION.md 10.6.
 
 use std::fmt::Write;
 
@@ -84,7 +84,7 @@ fn reversed_ends() {
     assert_eq!((info.id, info.flags()), (0x1234, 1));
 }
 
-/// What the specification prints.
+/// The printed list: docs/SPECIFICATION.md 10.
 fn printed(src: IsdAsn, dst: IsdAsn, book: &[u8]) -> Result<String, Refusal> {
     let mut slots = vec![0; LIST_SIZE];
     let mut room = [0; Path::SIZE];
