@@ -1,9 +1,8 @@
+use crate::layout::*;
 use core::{
     error::Error,
     fmt::{self, Display, Formatter},
 };
-
-use crate::layout::*;
 
 /// Why a call was refused: the refusals of docs/SPECIFICATION.md 9.2.
 ///
