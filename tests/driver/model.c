@@ -446,7 +446,7 @@ static int first_of_equals(unsigned p)
 /* The book is accepted. */
 static void work_out(uint64_t src, uint64_t dst, const uint8_t *book, size_t len)
 {
-    struct chain none = {0, 0, {NULL, NULL, NULL}};
+    struct chain none;
     struct vertex source = as_vertex(src);
     unsigned p;
     size_t i;
@@ -468,6 +468,7 @@ static void work_out(uint64_t src, uint64_t dst, const uint8_t *book, size_t len
             qsort(m.edge, m.edges, sizeof *m.edge, by_start);
     }
     m.chains = 0;
+    memset(&none, 0, sizeof none);
     if (src != dst)
         extend(&none, &source);
     if (m.chains)
