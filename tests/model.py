@@ -11,7 +11,7 @@ from collections import Counter, namedtuple
 
 sys.path.insert(0, os.path.join(os.path.dirname(os.path.abspath(__file__)), "..", "tools"))
 from booktext import layout  # noqa: E402
-from booktext.layout import CONSTRUCTION, COUNTS, ENDS, ENTRY, HEAD, PATH_HEAD, PEER, PEERING, ROUTE  # noqa: E402
+from booktext.layout import CONSTRUCTION, COUNTS, ENDS, ENTRY, HEAD, PATH_HEAD, PEER, PEERING, FINGERPRINTED  # noqa: E402
 
 Segment = namedtuple("Segment", "position core timestamp id entries")
 Entry = namedtuple("Entry", "isd_as mtu ingress_mtu hop peers")
@@ -137,7 +137,7 @@ def chains(found, source, destination):
 # ---- order: docs/SPECIFICATION.md 5
 
 def fingerprint(segment):
-    return hashlib.sha256(b"".join(ROUTE.pack(e.isd_as, e.hop.ingress, e.hop.egress) for e in segment.entries)).digest()
+    return hashlib.sha256(b"".join(FINGERPRINTED.pack(e.isd_as, e.hop.ingress, e.hop.egress) for e in segment.entries)).digest()
 
 
 def cost(chain):

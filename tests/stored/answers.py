@@ -16,7 +16,7 @@ from dataclasses import replace
 
 import form
 from booktext import layout
-from booktext.layout import ENDS, PATH_HEAD, ROUTE
+from booktext.layout import ENDS, PATH_HEAD, FINGERPRINTED
 import batch  # noqa: E402
 import cases  # noqa: E402
 import gen  # noqa: E402
@@ -32,7 +32,7 @@ FEW = 12            # solutions
 
 
 def fingerprint(segment):
-    return hashlib.sha256(b"".join(map(ROUTE.pack_of, segment.entries))).digest()
+    return hashlib.sha256(b"".join(map(FINGERPRINTED.pack_of, segment.entries))).digest()
 
 
 def order(segments, s):

@@ -114,7 +114,7 @@ HOP = Record("HOP", Field("units", 1), Field("ingress", INTERFACE_ID_SIZE), Fiel
 PATH_SIZE = PATH_HEAD.size + MAX_EDGES * INFO.size + MAX_HOPS * HOP.size + MAX_INTERFACES * INTERFACE_SIZE
 
 # Of each entry of a segment, what its fingerprint is worked out of.
-ROUTE = Record("ROUTE", ENTRY.of.isd_as, ENTRY.of.ingress, ENTRY.of.egress)
+FINGERPRINTED = Record("FINGERPRINTED", ENTRY.of.isd_as, ENTRY.of.ingress, ENTRY.of.egress)
 
 # Flags of an info; the first is the direction of a record's edge too.
 CONSTRUCTION, PEERING = 1, 2
