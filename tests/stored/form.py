@@ -1,4 +1,4 @@
-"""The forms of answers.bin, refusals.bin and of what crate stored is run on (README.md), written and read."""
+"""The forms of answers.bin, refusals.bin and of what the program that replays them reads (README.md)."""
 import os
 import sys
 
@@ -7,7 +7,7 @@ sys.path[:0] = [os.path.join(HERE, "..", "..", "tools"), os.path.join(HERE, ".."
 from batch import FRONT, framed  # noqa: E402
 from booktext.layout import ENDS, RECORD_SIZE, Field, Record  # noqa: E402
 
-LABEL, ANSWERED, CALLED = range(3)      # tags of the items that crate stored reads
+LABEL, ANSWERED, CALLED = range(3)      # tags of the items that the program reads
 LISTING, ASSEMBLY = range(2)            # the call of a case of refusals.bin
 
 COUNT = Record("COUNT", Field("solutions", 2))

@@ -10,7 +10,8 @@ import sys
 import bench
 import form
 
-CRATE = os.path.join(form.HERE, "..", "..", "crates", "stored")
+HERE = os.path.dirname(os.path.abspath(__file__))
+CRATE = os.path.join(HERE, "..", "..", "crates", "stored")
 
 
 def tagged(tag, cases):
