@@ -51,18 +51,20 @@ static uint32_t assemble(const uint8_t *record)
 /* The rest of a solution's line, and below it the infos and the interfaces. */
 static void print_path(void)
 {
-    unsigned infos = path[0], hops = path[1], interfaces = path[2], i;
-    const uint8_t *info = path + 26;
-    const uint8_t *as = info + 8 * infos + 11 * hops;
-    const uint8_t *id = as + 8 * interfaces;
+    unsigned infos = path[COMBINATOR_PATH_INFO_COUNT], hops = path[COMBINATOR_PATH_HOP_COUNT];
+    unsigned interfaces = path[COMBINATOR_PATH_INTERFACE_COUNT], i;
+    const uint8_t *info = path + COMBINATOR_PATH_HEAD_SIZE;
+    const uint8_t *as = info + COMBINATOR_INFO_SIZE * infos + COMBINATOR_HOP_SIZE * hops;
+    const uint8_t *id = as + COMBINATOR_AS_SIZE * interfaces;
 
-    printf(" mtu %" PRIu64 " expiry %" PRIu64 " hops %u\n", number(path + 4, 2),
-           number(path + 6, 4), hops);
-    for (i = 0; i < infos; i++, info += 8)
-        printf("info %u %04" PRIx64 " %" PRIu64 "\n", (unsigned)info[0], number(info + 2, 2),
-               number(info + 4, 4));
-    for (i = 0; i < interfaces; i++)
-        printf("if %016" PRIx64 " %" PRIu64 "\n", number(as + 8 * i, 8), number(id + 2 * i, 2));
+    printf(" mtu %" PRIu64 " expiry %" PRIu64 " hops %u\n", number(path + COMBINATOR_PATH_MTU, 2),
+           number(path + COMBINATOR_PATH_EXPIRY, 4), hops);
+    for (i = 0; i < infos; i++, info += COMBINATOR_INFO_SIZE)
+        printf("info %u %04" PRIx64 " %" PRIu64 "\n", (unsigned)info[COMBINATOR_INFO_FLAGS],
+               number(info + COMBINATOR_INFO_ID, 2), number(info + COMBINATOR_INFO_TIMESTAMP, 4));
+    for (i = 0; i < interfaces; i++, as += COMBINATOR_AS_SIZE, id += COMBINATOR_INTERFACE_ID_SIZE)
+        printf("if %016" PRIx64 " %" PRIu64 "\n", number(as, COMBINATOR_AS_SIZE),
+               number(id, COMBINATOR_INTERFACE_ID_SIZE));
 }
 
 int main(void)
@@ -83,8 +85,9 @@ int main(void)
         const uint8_t *record = list + COMBINATOR_RECORD_SIZE * i;
         uint32_t answer = assemble(record);
 
-        printf("%" PRIu32 " cost %" PRIu64 " segments %u", i + 1, number(record, 2),
-               (unsigned)record[2]);
+        printf("%" PRIu32 " cost %" PRIu64 " segments %u", i + 1,
+               number(record + COMBINATOR_RECORD_COST, 2),
+               (unsigned)record[COMBINATOR_RECORD_EDGE_COUNT]);
         if (answer == COMBINATOR_PATH)
             print_path();
         else if (answer == COMBINATOR_LOOP)

@@ -1,7 +1,7 @@
 /* combinator.h - SCION path combination: two functions over byte buffers.
  *
  *     combinator_list       lists every way to join the segments of a book into a path from a
- *                           source to a destination: one record of 16 bytes for each solution
+ *                           source to a destination: one record for each solution
  *     combinator_assemble   makes the path of one such record
  *
  * The library needs nothing but memcpy, memset and their like from the C library. It allocates
@@ -12,24 +12,24 @@
  *
  * Answers
  *
- * Below COMBINATOR_REFUSED (65,536) a number is the answer itself: of combinator_list the count of
- * solutions, 0 to 4,096; of combinator_assemble COMBINATOR_PATH, COMBINATOR_LOOP or
- * COMBINATOR_BARE. COMBINATOR_REFUSED + N is refusal N, 1 to 10:
+ * Below COMBINATOR_REFUSED a number is the answer itself: of combinator_list the count of solutions,
+ * 0 to COMBINATOR_MAX_SOLUTIONS; of combinator_assemble COMBINATOR_PATH, COMBINATOR_LOOP or
+ * COMBINATOR_BARE. COMBINATOR_REFUSED + N is refusal N:
  *
- *      1 Cut       the book is under 8 bytes, or shorter than its sizes say
- *      2 Surplus   the book is longer than its sizes say
- *      3 Oversize  the book is above 61,440 bytes
- *      4 Crowded   more than 64 segments
- *      5 Long      a segment with more than 16 entries
- *      6 Peers     an entry with more than 4 peers
+ *      1 Cut       the book is under COMBINATOR_COUNTS_SIZE bytes, or shorter than its counts say
+ *      2 Surplus   the book is longer than its counts say
+ *      3 Oversize  the book is above COMBINATOR_MAX_BOOK bytes
+ *      4 Crowded   more than COMBINATOR_MAX_SEGMENTS segments
+ *      5 Long      a segment with more than COMBINATOR_MAX_ENTRIES entries
+ *      6 Peers     an entry with more than COMBINATOR_MAX_PEERS peers
  *      7 Misfit    body lengths do not sum to the total, or a body is not filled exactly
  *      8 Full      (listing) more solutions than slots
- *      9 Small     (assembly) the output is under 1,538 bytes
- *     10 Stranger  (assembly) the record is not 16 bytes, or is no solution of this book, source
- *                  and destination
+ *      9 Small     (assembly) the output is under COMBINATOR_PATH_SIZE bytes
+ *     10 Stranger  (assembly) the record is not COMBINATOR_RECORD_SIZE bytes, or is no solution of
+ *                  this book, source and destination
  *
- * Of several that hold, the one tested first is answered: 3, 1 (under 8 bytes), 4, 1, 2, 5 over all
- * heads, 7 (the sum), 6 and 7 body by body; then 8 in listing, 9 and 10 in assembly.
+ * Of several that hold, the one tested first is answered: 3, 1 (the counts themselves), 4, 1, 2, 5
+ * over all heads, 7 (the sum), 6 and 7 body by body; then 8 in listing, 9 and 10 in assembly.
  *
  *
  * Buffers
@@ -45,13 +45,14 @@
  *
  * Time, threads and stack
  *
- * Every call ends after a number of steps that the limits of a book bind. The tests hold a listing to
- * 20 ms and an assembly to 2 ms of the thread's own time; the dearest book known took 1.6 ms.
+ * Every call ends after a number of steps that the limits of a book bind. The tests hold a listing
+ * to COMBINATOR_LIST_NS and an assembly to COMBINATOR_ASSEMBLE_NS, of the thread's own time; the
+ * dearest book known took 1.6 ms.
  *
  * There is no state: both functions may be called at the same time from any threads, each call with
  * an output of its own.
  *
- * A call needs at most COMBINATOR_STACK_SIZE bytes of stack: `driver stack` measured 71,943 for
+ * A call needs at most COMBINATOR_STACK_SIZE bytes of stack: `driver stack` measured 74,715 for
  * combinator_list and 3,783 for combinator_assemble; the constant leaves room above that.
  */
 #ifndef COMBINATOR_H
@@ -64,28 +65,122 @@
 extern "C" {
 #endif
 
-/* Sizes of what the functions write. */
-#define COMBINATOR_RECORD_SIZE 16     /* a solution's record */
-#define COMBINATOR_PATH_SIZE 1538     /* the least output of combinator_assemble */
-#define COMBINATOR_MAX_SOLUTIONS 4096 /* slots that are used of a longer output */
-#define COMBINATOR_LIST_SIZE 65536    /* an output with all slots: 4,096 records */
+/* ---- Limits */
 
-/* The stack that a call needs. */
-#define COMBINATOR_STACK_SIZE 98304
-
-/* Limits of a book. */
-#define COMBINATOR_MAX_BOOK 61440 /* bytes */
+#define COMBINATOR_MAX_BOOK 61440 /* bytes of a book */
 #define COMBINATOR_MAX_SEGMENTS 64
-#define COMBINATOR_MAX_ENTRIES 16 /* of a segment */
-#define COMBINATOR_MAX_PEERS 4    /* of an entry */
+#define COMBINATOR_MAX_ENTRIES 16     /* of a segment */
+#define COMBINATOR_MAX_PEERS 4        /* of an entry */
+#define COMBINATOR_MAX_EDGES 3        /* of a solution */
+#define COMBINATOR_MAX_SOLUTIONS 4096 /* slots that are used of a longer output */
 
-/* Sizes of a book's parts: the counts in front, a head, an entry without its peers, a peer. */
+/* A path has at most a hop for each entry, and two interfaces for each hop. */
+#define COMBINATOR_MAX_HOPS (COMBINATOR_MAX_EDGES * COMBINATOR_MAX_ENTRIES)
+#define COMBINATOR_MAX_INTERFACES (2 * COMBINATOR_MAX_HOPS)
+
+/* What a call takes: bytes of stack, nanoseconds. */
+#define COMBINATOR_STACK_SIZE 98304
+#define COMBINATOR_LIST_NS 20000000
+#define COMBINATOR_ASSEMBLE_NS 2000000
+
+/* ---- Layouts
+ *
+ * Of each part of a buffer: where its fields stand in it, with the bytes of each in the comment, and
+ * its own size. */
+
+#define COMBINATOR_AS_SIZE 8 /* an ISD-AS: the ISD in the top 16 bits, the AS in the low 48 */
+#define COMBINATOR_MAC_SIZE 6
+
+/* A book: its counts; a head for each segment, cores first; then a body for each, in the same order.
+ * A segment's position counts from 0 over both kinds. */
+#define COMBINATOR_COUNTS_CORES 0     /* 2, core segments */
+#define COMBINATOR_COUNTS_NON_CORES 2 /* 2, non-core segments */
+#define COMBINATOR_COUNTS_BODIES 4    /* 4, bytes of all bodies */
 #define COMBINATOR_COUNTS_SIZE 8
+
+#define COMBINATOR_HEAD_TIMESTAMP 0   /* 4, seconds */
+#define COMBINATOR_HEAD_ID 4          /* 2, segment id */
+#define COMBINATOR_HEAD_ENTRY_COUNT 6 /* 2 */
+#define COMBINATOR_HEAD_BODY_LENGTH 8 /* 2, bytes */
 #define COMBINATOR_HEAD_SIZE 10
-#define COMBINATOR_ENTRY_SIZE 26
+
+/* A body is its segment's entries in construction order, each followed by its peers. */
+#define COMBINATOR_ENTRY_AS 0           /* COMBINATOR_AS_SIZE */
+#define COMBINATOR_ENTRY_MTU 8          /* 4, within the AS */
+#define COMBINATOR_ENTRY_INGRESS_MTU 12 /* 2, of the link at the ingress, or 0 */
+#define COMBINATOR_ENTRY_INGRESS 14     /* 2, interface, or 0 */
+#define COMBINATOR_ENTRY_EGRESS 16      /* 2, interface, or 0 */
+#define COMBINATOR_ENTRY_UNITS 18       /* 1, expiry in units */
+#define COMBINATOR_ENTRY_MAC 19         /* COMBINATOR_MAC_SIZE */
+#define COMBINATOR_ENTRY_PEER_COUNT 25  /* 1 */
+#define COMBINATOR_ENTRY_SIZE 26        /* without its peers */
+
+#define COMBINATOR_PEER_AS 0        /* COMBINATOR_AS_SIZE, of the peer */
+#define COMBINATOR_PEER_INTERFACE 8 /* 2, of the peer */
+#define COMBINATOR_PEER_MTU 10      /* 2, of the link */
+#define COMBINATOR_PEER_UNITS 12    /* 1, expiry in units */
+#define COMBINATOR_PEER_INGRESS 13  /* 2, interface, or 0 */
+#define COMBINATOR_PEER_EGRESS 15   /* 2, interface, or 0 */
+#define COMBINATOR_PEER_MAC 17      /* COMBINATOR_MAC_SIZE */
 #define COMBINATOR_PEER_SIZE 23
 
-/* Answers of combinator_assemble that are no refusals. */
+/* A solution's record: a head, then COMBINATOR_MAX_EDGES edges, unused ones zero. */
+#define COMBINATOR_RECORD_COST 0       /* 2, links in all */
+#define COMBINATOR_RECORD_EDGE_COUNT 2 /* 1 */
+#define COMBINATOR_RECORD_ZERO 3       /* 1 */
+#define COMBINATOR_RECORD_HEAD_SIZE 4
+
+#define COMBINATOR_EDGE_POSITION 0  /* 1, of the segment */
+#define COMBINATOR_EDGE_SHORTCUT 1  /* 1, index of the entry at which the used part ends */
+#define COMBINATOR_EDGE_PEER 2      /* 1, index of the peer plus 1, or 0 for none */
+#define COMBINATOR_EDGE_DIRECTION 3 /* 1, COMBINATOR_CONSTRUCTION or 0 */
+#define COMBINATOR_EDGE_SIZE 4
+
+#define COMBINATOR_RECORD_SIZE \
+    (COMBINATOR_RECORD_HEAD_SIZE + COMBINATOR_MAX_EDGES * COMBINATOR_EDGE_SIZE)
+
+/* An output of combinator_list with every slot. */
+#define COMBINATOR_LIST_SIZE (COMBINATOR_MAX_SOLUTIONS * COMBINATOR_RECORD_SIZE)
+
+/* A path: a head; its infos; its hops; the AS of each interface; then the id of each interface. */
+#define COMBINATOR_PATH_INFO_COUNT 0      /* 1 */
+#define COMBINATOR_PATH_HOP_COUNT 1       /* 1 */
+#define COMBINATOR_PATH_INTERFACE_COUNT 2 /* 1 */
+#define COMBINATOR_PATH_ZERO 3            /* 1 */
+#define COMBINATOR_PATH_MTU 4             /* 2 */
+#define COMBINATOR_PATH_EXPIRY 6          /* 4, in the unit of the timestamps: seconds */
+#define COMBINATOR_PATH_FIRST_AS 10       /* COMBINATOR_AS_SIZE, of the first interface */
+#define COMBINATOR_PATH_LAST_AS 18        /* COMBINATOR_AS_SIZE, of the last interface */
+#define COMBINATOR_PATH_HEAD_SIZE 26
+
+#define COMBINATOR_INFO_FLAGS 0     /* 1, COMBINATOR_CONSTRUCTION and COMBINATOR_PEERING */
+#define COMBINATOR_INFO_HOP_COUNT 1 /* 1 */
+#define COMBINATOR_INFO_ID 2        /* 2, segment id */
+#define COMBINATOR_INFO_TIMESTAMP 4 /* 4, seconds */
+#define COMBINATOR_INFO_SIZE 8
+
+#define COMBINATOR_HOP_UNITS 0   /* 1, expiry in units */
+#define COMBINATOR_HOP_INGRESS 1 /* 2 */
+#define COMBINATOR_HOP_EGRESS 3  /* 2 */
+#define COMBINATOR_HOP_MAC 5     /* COMBINATOR_MAC_SIZE */
+#define COMBINATOR_HOP_SIZE 11
+
+#define COMBINATOR_INTERFACE_ID_SIZE 2
+#define COMBINATOR_INTERFACE_SIZE (COMBINATOR_AS_SIZE + COMBINATOR_INTERFACE_ID_SIZE)
+
+/* The longest path: the least output of combinator_assemble. */
+#define COMBINATOR_PATH_SIZE                                                   \
+    (COMBINATOR_PATH_HEAD_SIZE + COMBINATOR_MAX_EDGES * COMBINATOR_INFO_SIZE + \
+     COMBINATOR_MAX_HOPS * COMBINATOR_HOP_SIZE +                               \
+     COMBINATOR_MAX_INTERFACES * COMBINATOR_INTERFACE_SIZE)
+
+/* Flags of an info; the first is the direction of a record's edge too. */
+#define COMBINATOR_CONSTRUCTION 1 /* in construction direction */
+#define COMBINATOR_PEERING 2      /* through a peer */
+
+/* ---- Answers */
+
+/* Of combinator_assemble, where it does not refuse. */
 #define COMBINATOR_PATH 0u /* out holds the path */
 #define COMBINATOR_LOOP 1u /* the interfaces show one AS more than twice: no path */
 #define COMBINATOR_BARE 2u /* there are no interfaces: no path */
@@ -103,56 +198,33 @@ extern "C" {
 #define COMBINATOR_SMALL (COMBINATOR_REFUSED + 9u)
 #define COMBINATOR_STRANGER (COMBINATOR_REFUSED + 10u)
 
-/* Is an answer a refusal, and its number, 1 to 10. */
+/* Is an answer a refusal, its number, and the last number. */
 #define COMBINATOR_IS_REFUSAL(answer) ((answer) >= COMBINATOR_REFUSED)
 #define COMBINATOR_REFUSAL(answer) ((answer) - COMBINATOR_REFUSED)
+#define COMBINATOR_LAST_REFUSAL COMBINATOR_REFUSAL(COMBINATOR_STRANGER)
 
-/* Flags of an info, and the direction of a record's edge. */
-#define COMBINATOR_CONSTRUCTION 1 /* in construction direction */
-#define COMBINATOR_PEERING 2      /* through a peer */
+/* ---- Functions */
 
 /* Lists the solutions from src to dst of a book into out, the best first.
  *
- * src, dst: ISD-AS numbers, the ISD in the top 16 bits, the AS in the low 48. Where they are equal
- * the list is empty.
+ * src, dst: ISD-AS numbers. Where they are equal the list is empty.
  *
- * book: the count of core segments (2 bytes), of non-core segments (2), the total of the bodies'
- * bytes (4); a head for each segment, cores first; then a body for each, in the same order. A
- * segment's position counts from 0 over both kinds.
+ * out: out_len / COMBINATOR_RECORD_SIZE slots, but not more than COMBINATOR_MAX_SOLUTIONS.
+ * COMBINATOR_LIST_SIZE bytes suffice for every book that can be listed at all.
  *
- *     head   10  timestamp 4, segment id 2, count of entries 2, length of the body 2
- *     entry  26  AS 8, AS MTU 4, ingress MTU 2, ingress 2, egress 2, units 1, MAC 6, peer count 1
- *     peer   23  peer AS 8, peer interface 2, peer MTU 2, units 1, ingress 2, egress 2, MAC 6
- *
- * A body is its segment's entries in construction order, each followed by its peers.
- *
- * out: out_len / 16 slots, but not more than 4,096. COMBINATOR_LIST_SIZE bytes suffice for every
- * book that can be listed at all.
- *
- *     record 16  cost 2, count of edges 1, zero 1, then three edges of 4, unused ones zero:
- *                position 1, shortcut 1, peer index plus 1 or 0 for none 1, direction 1
- *
- * Returns the count of solutions, or refusal 1 to 8. */
+ * Returns the count of solutions, or a refusal: about the book, or COMBINATOR_FULL. */
 uint32_t combinator_list(uint64_t src, uint64_t dst, const uint8_t *book, size_t book_len,
                          uint8_t *out, size_t out_len);
 
 /* Makes the path of a solution into out.
  *
- * src, dst, book: those of the listing. record: 16 bytes as listed. A record of any solution is
- * taken, also where listing answers COMBINATOR_FULL.
+ * src, dst, book: those of the listing. record: COMBINATOR_RECORD_SIZE bytes as listed. A record of
+ * any solution is taken, also where listing answers COMBINATOR_FULL.
  *
  * out: at least COMBINATOR_PATH_SIZE bytes.
  *
- *     at 0       counts of infos, hops and interfaces, 1 each; zero 1
- *     at 4       MTU 2
- *     at 6       expiry 4, in the unit of the timestamps: seconds
- *     at 10      AS of the first interface 8, of the last 8
- *     at 26      infos of 8: flags 1, count of hops 1, segment id 2, timestamp 4
- *     then       hops of 11: units 1, ingress 2, egress 2, MAC 6
- *     then       the AS of each interface, 8 each
- *     then       the id of each interface, 2 each
- *
- * Returns COMBINATOR_PATH, COMBINATOR_LOOP or COMBINATOR_BARE, or refusal 1 to 7, 9 or 10. */
+ * Returns COMBINATOR_PATH, COMBINATOR_LOOP or COMBINATOR_BARE, or a refusal: about the book,
+ * COMBINATOR_SMALL or COMBINATOR_STRANGER. */
 uint32_t combinator_assemble(uint64_t src, uint64_t dst, const uint8_t *book, size_t book_len,
                              const uint8_t *record, size_t record_len, uint8_t *out,
                              size_t out_len);

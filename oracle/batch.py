@@ -1,35 +1,43 @@
 """Reading batches, books and the texts of the oracle and of the driver (README.md)."""
-import struct
+import os
+import sys
+from collections import namedtuple
+
+sys.path.insert(0, os.path.join(os.path.dirname(os.path.abspath(__file__)), "..", "tools"))
+from booktext import layout  # noqa: E402
+
+FRONT = 4       # bytes of the length before each case
+
+# The words of an edge in both texts; the fingerprint is cut.
+Edge = namedtuple("Edge", "position shortcut peer direction fingerprint")
+
+
+def edge(words):
+    position, shortcut, peer, direction, fingerprint = words
+    return Edge(int(position), int(shortcut), None if peer == "-" else int(peer), int(direction), fingerprint)
 
 
 def cases(blob):
-    """The cases of a batch: source 8, destination 8, book."""
+    """The cases of a batch: source, destination, book."""
     at = 0
     while at < len(blob):
-        n, = struct.unpack_from(">I", blob, at)
-        yield blob[at + 4:at + 4 + n]
-        at += 4 + n
+        n = int.from_bytes(blob[at:at + FRONT], "big")
+        yield blob[at + FRONT:at + FRONT + n]
+        at += FRONT + n
+
+
+def framed(case):
+    return len(case).to_bytes(FRONT, "big") + case
 
 
 def batch(found):
-    return b"".join(struct.pack(">I", len(c)) + c for c in found)
+    return b"".join(map(framed, found))
 
 
 def book(b):
-    """(count of cores, [(timestamp, id, [(as, as mtu, ingress mtu, ingress, egress, units, mac, peers)])])"""
-    c, n, _ = struct.unpack_from(">HHI", b)
-    at, out = 8 + 10 * (c + n), []
-    for p in range(c + n):
-        ts, sid, k, _ = struct.unpack_from(">IHHH", b, 8 + 10 * p)
-        es = []
-        for _ in range(k):
-            f = struct.unpack_from(">QIHHHB6sB", b, at)
-            at += 26
-            ps = [struct.unpack_from(">QHHBHH6s", b, at + 23 * q) for q in range(f[-1])]
-            at += 23 * f[-1]
-            es.append(f[:-1] + (ps,))
-        out.append((ts, sid, es))
-    return c, out
+    """The count of cores of an accepted book, and its segments."""
+    segments = layout.read(b)
+    return sum(s.core for s in segments), segments
 
 
 def oracle_blocks(path):
@@ -46,8 +54,7 @@ def oracle_blocks(path):
             elif w[0] == "solutions":
                 pass
             elif w[0] == "edge":
-                cur["edges"].append((int(w[1]), int(w[2]), None if w[3] == "-" else int(w[3]),
-                                     int(w[4]), w[5]))
+                cur["edges"].append(edge(w[1:]))
             elif w[0] == "path":
                 cur["verdict"], cur["mtu"], cur["expiry"] = "path", int(w[2]), int(w[4])
             elif w[0] == "info":
@@ -59,8 +66,7 @@ def oracle_blocks(path):
             elif w[0] in ("loop", "panic", "encode-refused", "other-panic"):
                 cur["verdict"] = w[0]
             else:
-                cur = dict(cost=int(w[2]), n=int(w[4]), edges=[], verdict=None, infos=[], hops=[],
-                           ifs=[])
+                cur = dict(cost=int(w[2]), n=int(w[4]), edges=[], verdict=None, infos=[], hops=[], ifs=[])
                 sols.append(cur)
     yield sols
 
@@ -80,7 +86,6 @@ def driver_blocks(path):
         yield cur
 
 
-def tie_key(s):
+def tie_key(cost, edges):
     """What the Rust orders a solution by."""
-    return (s["cost"], s["n"],
-            tuple((-1 if p is None else p, -sc, fp) for (_, sc, p, _, fp) in s["edges"]))
+    return cost, len(edges), tuple((-1 if e.peer is None else e.peer, -e.shortcut, e.fingerprint) for e in edges)

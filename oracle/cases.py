@@ -1,52 +1,54 @@
 #!/usr/bin/env python3
-"""The cases made by hand: document 01's bench cases, and the inputs of docs/DIFFERENCES.md.
+"""The cases made by hand: those that the specification settles by number, and the inputs of docs/DIFFERENCES.md.
 
     cases.py --out FILE        writes them all as a batch
     cases.py --names           their names, one a line, in the batch's order
     cases.py --hex NAME        one case in hex (source, destination, book)
 """
 import argparse
-import struct
-import sys
 
-from gen import Entry, Seg, pack_book
+from batch import batch, layout
+from booktext.layout import COUNTS, ENDS, MAC_SIZE, MAX_ENTRIES, MAX_SEGMENTS, Entry, Peer, Segment
 
 A, B, C = 0x0001FF0000000111, 0x0001FF0000000110, 0x0001FF0000000112
 MAC0, MAC1 = bytes.fromhex("010203040506"), bytes.fromhex("0a0b0c0d0e0f")
 
 
 def worked(mtu0=1500, units=63, ts=1000000, peers=()):
-    return Seg(ts, 0x1234, [Entry(B, mtu0, 0, 0, 5, units, MAC0, list(peers)),
-                            Entry(A, 1400, 1350, 7, 0, units, MAC1, [])])
+    return Segment(ts, 0x1234, [Entry(B, mtu0, egress=5, units=units, mac=MAC0, peers=list(peers)),
+                                Entry(A, 1400, 1350, ingress=7, units=units, mac=MAC1)])
 
 
-def e(as_, ing=0, egr=0, peers=(), mac=bytes(6)):
-    return Entry(as_, 1500, 0, ing, egr, 0, mac, [list(p) for p in peers])
+def e(as_, ing=0, egr=0, peers=(), mac=bytes(MAC_SIZE)):
+    return Entry(as_, 1500, ingress=ing, egress=egr, mac=mac, peers=list(peers))
 
 
 def peer(as_, if_, ing, egr=0, mtu=1500):
-    return [as_, if_, mtu, 0, ing, egr, bytes.fromhex("f0f0f0f0f0f0")]
+    return Peer(as_, if_, mtu, ingress=ing, egress=egr, mac=bytes.fromhex("f0f0f0f0f0f0"))
 
 
 def seg(*es):
-    return Seg(0, 0, list(es))
+    return Segment(entries=list(es))
 
 
 CASES = {}
 
 
 def case(name, s, d, cores=(), noncores=(), raw=None):
-    b = pack_book(list(cores), list(noncores)) if raw is None else raw
-    CASES[name] = struct.pack(">QQ", s, d) + b
+    CASES[name] = ENDS.pack(s, d) + (layout.book(list(cores), list(noncores)) if raw is None else raw)
 
 
-# Document 01, bench cases.
-case("eight zero bytes", A, B)
-case("seven bytes", A, B, raw=bytes(7))
-case("C 65", A, B, raw=struct.pack(">HHI", 65, 0, 0))
-case("64 segments", A, B, [], [seg() for _ in range(64)])
-case("16 entries", A, B, [], [seg(*[e(A if i == 15 else B, 1, 1) for i in range(16)])])
-case("17 entries", A, B, [], [seg(*[e(A if i == 16 else B, 1, 1) for i in range(17)])])
+def entries(n):
+    return seg(*[e(A if i == n - 1 else B, 1, 1) for i in range(n)])
+
+
+# Settled by number: docs/SPECIFICATION.md 9.2, and what follows from the worked example of 10.6.
+case("the counts alone", A, B)
+case("a byte less", A, B, raw=bytes(COUNTS.size - 1))
+case("a core more than the most", A, B, raw=COUNTS.pack(MAX_SEGMENTS + 1, 0, 0))
+case("the most segments", A, B, [], [seg() for _ in range(MAX_SEGMENTS)])
+case("the most entries", A, B, [], [entries(MAX_ENTRIES)])
+case("an entry more", A, B, [], [entries(MAX_ENTRIES + 1)])
 case("the list", A, B, [], [worked()])
 case("reversed ends", B, A, [], [worked()])
 case("entry 0 given a peer", C, A, [],
@@ -57,8 +59,7 @@ for u in (0, 1, 255):
     case(f"units {u}", A, B, [], [worked(units=u, ts=0)])
 case("timestamp 4294967295", A, B, [], [worked(ts=2**32 - 1)])
 case("core A-B, core B-C", A, C, [seg(e(A, 0, 1), e(B, 1)), seg(e(B, 0, 2), e(C, 1))])
-case("AS MTU 70000", A, B, [], [Seg(0, 0, [Entry(B, 70000, 0, 0, 5, 0, MAC0, []),
-                                           Entry(A, 9000, 0, 7, 0, 0, MAC1, [])])])
+case("AS MTU 70000", A, B, [], [seg(Entry(B, 70000, egress=5, mac=MAC0), Entry(A, 9000, ingress=7, mac=MAC1))])
 case("an AS at three interfaces", A, C, [], [seg(e(B, 0, 1), e(A, 1)), seg(e(B, 3, 2), e(C, 1))])
 case("an AS at two interfaces", A, C, [], [seg(e(B, 0, 1), e(A, 1)), seg(e(B, 0, 2), e(C, 1))])
 # Differences.
@@ -80,8 +81,7 @@ def main():
         print(CASES[o.hex].hex())
     if o.out:
         with open(o.out, "wb") as f:
-            for c in CASES.values():
-                f.write(struct.pack(">I", len(c)) + c)
+            f.write(batch(CASES.values()))
 
 
 if __name__ == "__main__":

@@ -7,23 +7,21 @@ The Rust leaves ties open (equal cost, edge count and, edge by edge, peer, short
 each run of ties is compared as a multiset, and the driver's must go by position. Everything else is
 compared in order, every field. `panic` of the Rust stands for `bare`, `undecodable` for a refusal 1
 to 7, whose number is compared where the oracle printed it (--numbers). `full` must stand where there
-are more than 4,096 solutions, and only there. Exit status 1 if any case differs.
+are more solutions than slots, and only there. Exit status 1 if any case differs.
 """
 import argparse
 import sys
 from collections import Counter
 from itertools import groupby
 
-from batch import driver_blocks, oracle_blocks, tie_key
-
-SLOTS = 4096
+from batch import Edge, driver_blocks, edge, layout, oracle_blocks, tie_key
 
 
 def line(s):
     """The driver's line for a solution of the oracle."""
     w = [s["cost"], s["n"]]
-    for (pos, sc, peer, d, fp) in s["edges"]:
-        w += [pos, sc, "-" if peer is None else peer, d, fp]
+    for e in s["edges"]:
+        w += e._replace(peer="-" if e.peer is None else e.peer)
     if s["verdict"] == "path":
         w += [s["mtu"], s["expiry"]]
         for i in s["infos"]:
@@ -38,15 +36,18 @@ def line(s):
 
 
 def driver_key(l):
-    w = l.split()
-    n = int(w[1])
-    return (int(w[0]), n, tuple((-1 if w[2 + 5 * i + 2] == "-" else int(w[2 + 5 * i + 2]),
-                                 -int(w[2 + 5 * i + 1]), w[2 + 5 * i + 4]) for i in range(n)))
+    return tie_key(int(l.split()[0]), driver_edges(l))
+
+
+def driver_edges(l):
+    """The edges of a line of the driver, which follow cost and count."""
+    _, count, *w = l.split()
+    n = len(Edge._fields)
+    return [edge(w[n * i:n * (i + 1)]) for i in range(int(count))]
 
 
 def positions(l):
-    w = l.split()
-    return [int(w[2 + 5 * i]) for i in range(int(w[1]))]
+    return [e.position for e in driver_edges(l)]
 
 
 def runs(lines, keys):
@@ -71,9 +72,9 @@ def differs(a, b, count):
     if full:
         b = b[1:]
         count["full"] += 1
-    if full != (len(a) > SLOTS):
+    if full != (len(a) > layout.MAX_SOLUTIONS):
         return "full, or not"
-    la, ka, kb = [line(s) for s in a], [tie_key(s) for s in a], [driver_key(l) for l in b]
+    la, ka, kb = [line(s) for s in a], [tie_key(s["cost"], s["edges"]) for s in a], [driver_key(l) for l in b]
     count["solutions"] += len(la)
     count["paths"] += sum(s["verdict"] == "path" for s in a)
     if Counter(la) != Counter(b):

@@ -1,6 +1,5 @@
 #!/usr/bin/env python3
-"""Generates books, with source and destination, as a batch for the oracle and the driver:
-repeated [length of the rest, 4 bytes big-endian][source 8][destination 8][book].
+"""Generates books, with source and destination, as a batch for the oracle and the driver (README.md).
 
     gen.py --seed 1 --count 20000 --out cases.batch [--profile NAME] [--list-profiles]
 
@@ -9,47 +8,16 @@ of each case is written, one line a case.
 """
 import argparse
 import random
-import struct
 import sys
+from dataclasses import replace
 
-MAX_BOOK = 61440
-
-
-class Seg:
-    def __init__(self, ts, sid, entries):
-        self.ts, self.sid, self.entries = ts, sid, entries
-
-    def copy(self):
-        return Seg(self.ts, self.sid, [e.copy() for e in self.entries])
-
-    def body(self):
-        return b"".join(e.bytes() for e in self.entries)
+from batch import framed, layout
+from booktext.layout import COUNTS, ENDS, ENTRY, HEAD, MAC_SIZE, MAX_BOOK, MAX_ENTRIES, MAX_PEERS, MAX_SEGMENTS, PEER
+from booktext.layout import Entry, Peer, Segment, head_place
 
 
-class Entry:
-    def __init__(self, as_, mtu, imtu, ing, egr, units, mac, peers):
-        self.as_, self.mtu, self.imtu, self.ing, self.egr = as_, mtu, imtu, ing, egr
-        self.units, self.mac, self.peers = units, mac, peers
-
-    def copy(self):
-        return Entry(self.as_, self.mtu, self.imtu, self.ing, self.egr, self.units, self.mac,
-                     [list(p) for p in self.peers])
-
-    def bytes(self):
-        out = struct.pack(">QIHHHB", self.as_, self.mtu, self.imtu, self.ing, self.egr, self.units)
-        out += self.mac + bytes([len(self.peers)])
-        for (pas, pif, pmtu, units, ing, egr, mac) in self.peers:
-            out += struct.pack(">QHHBHH", pas, pif, pmtu, units, ing, egr) + mac
-        return out
-
-
-def pack_book(cores, noncores):
-    segs = cores + noncores
-    bodies = [s.body() for s in segs]
-    out = struct.pack(">HHI", len(cores), len(noncores), sum(map(len, bodies)))
-    for s, b in zip(segs, bodies):
-        out += struct.pack(">IHHH", s.ts, s.sid, len(s.entries), len(b))
-    return out + b"".join(bodies)
+def copied(s):
+    return replace(s, entries=[replace(e, peers=[replace(p) for p in e.peers]) for e in s.entries])
 
 
 class Gen:
@@ -60,47 +28,52 @@ class Gen:
         # How wild the fields are, how often interfaces are zero, how many interface ids there are.
         self.wild = rng.choice([0.0, 0.0, 0.15, 0.6])
         self.zero = rng.choice([0.0, 0.0, 0.05, 0.1, 0.1, 0.5, 0.5, 1.0])
-        self.ifs = rng.choice([1, 2, 4, 30, 65535])
-        self.macs = [rng.randbytes(6) for _ in range(rng.choice([1, 2, 40]))]
-        self.macs += [bytes(6)] if rng.random() < 0.1 else []
+        self.ifs = rng.choice([1, 2, 4, 30, ENTRY.of.ingress.most])
+        self.macs = [rng.randbytes(MAC_SIZE) for _ in range(rng.choice([1, 2, 40]))]
+        self.macs += [bytes(MAC_SIZE)] if rng.random() < 0.1 else []
 
     def p(self, x):
         return self.r.random() < x
 
     def ts(self):
         if self.p(self.wild):
-            return self.r.choice([0, 1, 2**32 - 1, 2**32 - 2, 2**32 - 338, 2**32 - 337, 2**32 - 86400,
-                                  2**32 - 86401, self.r.randrange(2**32)])
+            # Near the end, and the least and the longest life of a hop before it.
+            end = HEAD.of.timestamp.most + 1
+            return self.r.choice([0, 1, end - 1, end - 2, end - 338, end - 337, end - 86400, end - 86401, self.r.randrange(end)])
         return self.r.choice([1000000, 1700000000 + self.r.randrange(4) * 300])
 
     def sid(self):
-        return self.r.choice([0, 0xFFFF, 0x1234, self.r.randrange(65536), self.r.randrange(65536)])
+        most = HEAD.of.id.most
+        return self.r.choice([0, most, 0x1234, self.r.randrange(most + 1), self.r.randrange(most + 1)])
 
     def units(self):
-        return self.r.choice([0, 1, 63, 63, 254, 255, self.r.randrange(256)])
+        most = ENTRY.of.units.most
+        return self.r.choice([0, 1, 63, 63, most - 1, most, self.r.randrange(most + 1)])
 
     def mtu(self):
         if self.p(self.wild):
-            return self.r.choice([0, 1, 65535, 65536, 65537, 70000, 131071, 2**32 - 1, 2**31,
-                                  self.r.randrange(2**32)])
+            # The most of a path's field, past it and twice it; the most of this one.
+            most, end = layout.PATH_HEAD.of.mtu.most, ENTRY.of.mtu.most + 1
+            return self.r.choice([0, 1, most, most + 1, most + 2, 70000, 2 * most + 1, end - 1, end // 2, self.r.randrange(end)])
         return self.r.choice([1280, 1400, 1472, 1500, 9000])
 
     def imtu(self):
         if self.p(self.wild):
-            return self.r.choice([0, 0, 1, 65535, self.r.randrange(65536)])
+            most = ENTRY.of.ingress_mtu.most
+            return self.r.choice([0, 0, 1, most, self.r.randrange(most + 1)])
         return self.r.choice([0, 1200, 1280, 1300, 1350, 1400, 1472])
 
     def ifid(self):
         return 0 if self.p(self.zero) else self.r.randint(1, self.ifs)
 
     def mac(self):
-        return self.r.choice(self.macs) if self.p(0.7) else self.r.randbytes(6)
+        return self.r.choice(self.macs) if self.p(0.7) else self.r.randbytes(MAC_SIZE)
 
     def peer(self, pas, pif, ing):
-        return [pas, pif, self.imtu(), self.units(), ing, self.ifid(), self.mac()]
+        return Peer(pas, pif, self.imtu(), self.units(), ing, self.ifid(), self.mac())
 
     def entry(self, as_, ing, egr, peers=()):
-        return Entry(as_, self.mtu(), self.imtu(), ing, egr, self.units(), self.mac(), list(peers))
+        return Entry(as_, self.mtu(), self.imtu(), ing, egr, self.units(), self.mac(), peers=list(peers))
 
     def asn(self, k):
         """k ASes, of one ISD mostly, now and then at the ends of the range."""
@@ -134,7 +107,7 @@ def links_between(g, universe, n):
     return out
 
 
-def peers_for(g, as_, links, most=4, often=0.5, foreign=0.05):
+def peers_for(g, as_, links, most=MAX_PEERS, often=0.5, foreign=0.05):
     """Peer entries of an AS: sides of the links at that AS, or (foreign) anything."""
     out = []
     ends = [(b, fb, fa) for (a, fa, b, fb) in links if a == as_]
@@ -161,12 +134,12 @@ def soup_seg(g, universe, links, n, repeat=0.15, peer=0.5, tidy=0.7):
         ing = 0 if i == 0 and g.p(tidy) else g.ifid()
         egr = 0 if i == n - 1 and g.p(tidy) else g.ifid()
         entries.append(g.entry(a, ing, egr, peers_for(g, a, links, often=peer)))
-    return Seg(g.ts(), g.sid(), entries)
+    return Segment(g.ts(), g.sid(), entries)
 
 
 def pick_ends(g, cores, noncores, universe):
-    leaves = [s.entries[-1].as_ for s in noncores + cores if s.entries]
-    tops = [s.entries[0].as_ for s in cores + noncores if s.entries]
+    leaves = [s.entries[-1].isd_as for s in noncores + cores if s.entries]
+    tops = [s.entries[0].isd_as for s in cores + noncores if s.entries]
     def one():
         x = g.r.random()
         if x < 0.6 and leaves:
@@ -199,29 +172,29 @@ def soup(g, sizes, entries, uni, nlinks, repeat=None):
 
 def vary(g, s):
     """A copy of a segment, equal or with an equal fingerprint, or almost."""
-    s = s.copy()
+    s = copied(s)
     if not s.entries:
         return s
     e = g.r.choice(s.entries)
     k = g.r.randrange(11)
     if k == 0:
-        s.ts = g.ts()
+        s.timestamp = g.ts()
     elif k == 1:
-        s.sid = g.sid()
+        s.id = g.sid()
     elif k == 2:
-        e.mac = g.r.randbytes(6)
+        e.mac = g.r.randbytes(MAC_SIZE)
     elif k == 3:
         e.mtu = g.mtu()
     elif k == 4:
-        e.imtu = g.imtu()
+        e.ingress_mtu = g.imtu()
     elif k == 5:
         e.units = g.units()
     elif k == 6 and e.peers:
         e.peers.pop()
-    elif k == 7 and len(e.peers) < 4 and e.peers:
-        e.peers.append(list(g.r.choice(e.peers)))
+    elif k == 7 and len(e.peers) < MAX_PEERS and e.peers:
+        e.peers.append(replace(g.r.choice(e.peers)))
     elif k == 8 and e.peers:
-        g.r.choice(e.peers)[2] = g.imtu()
+        g.r.choice(e.peers).mtu = g.imtu()
     elif k == 9 and e.peers:
         g.r.shuffle(e.peers)
     return s  # k == 10: an equal segment
@@ -247,9 +220,9 @@ def prof_copies(g):
                 l.insert(g.r.randint(0, len(l)), vary(g, g.r.choice(l)))
     # The same bytes under the other kind.
     if noncores and g.p(0.3):
-        cores.append(g.r.choice(noncores).copy())
+        cores.append(copied(g.r.choice(noncores)))
     if cores and g.p(0.3):
-        noncores.append(g.r.choice(cores).copy())
+        noncores.append(copied(g.r.choice(cores)))
     return s, d, cores, noncores
 
 
@@ -261,7 +234,7 @@ def prof_peering(g):
     def seg(leaf):
         n = r.randint(1, 5)
         path = [r.choice(universe) for _ in range(n - 1)] + [leaf]
-        return Seg(g.ts(), g.sid(), [
+        return Segment(g.ts(), g.sid(), [
             g.entry(a, 0 if i == 0 else g.ifid(), 0 if i == n - 1 else g.ifid())
             for i, a in enumerate(path)])
     leaves = r.sample(universe, 2)
@@ -272,12 +245,12 @@ def prof_peering(g):
         x, y = r.choice(s.entries), r.choice(t.entries)
         fx, fy = link_if(g), link_if(g)
         for _ in range(r.choice([1, 1, 1, 2])):
-            if len(x.peers) < 4:
-                x.peers.insert(r.randint(0, len(x.peers)), g.peer(y.as_, fy, fx))
+            if len(x.peers) < MAX_PEERS:
+                x.peers.insert(r.randint(0, len(x.peers)), g.peer(y.isd_as, fy, fx))
         if g.p(0.9):
             for _ in range(r.choice([1, 1, 1, 2])):
-                if len(y.peers) < 4:
-                    y.peers.insert(r.randint(0, len(y.peers)), g.peer(x.as_, fx, fy))
+                if len(y.peers) < MAX_PEERS:
+                    y.peers.insert(r.randint(0, len(y.peers)), g.peer(x.isd_as, fx, fy))
     cores = []
     for _ in range(r.randint(0, 2)):
         cores.append(soup_seg(g, universe, [], r.randint(1, 3)))
@@ -300,7 +273,7 @@ def prof_three(g):
         mid = [x for x in r.sample(core, r.randint(0, k)) if x not in (a, b)]
         path = [a] + mid + ([b] if a != b or g.p(0.5) else [])
         n = len(path)
-        cores.append(Seg(g.ts(), g.sid(), [
+        cores.append(Segment(g.ts(), g.sid(), [
             g.entry(x, 0 if i == 0 else g.ifid(), 0 if i == n - 1 else g.ifid())
             for i, x in enumerate(path)]))
     leaves = r.sample(low, 2)
@@ -309,7 +282,7 @@ def prof_three(g):
         mid = r.sample(low, r.randint(0, min(3, len(low))))
         path = [r.choice(core)] + [x for x in mid if x != leaf or g.p(0.1)] + [leaf]
         n = len(path)
-        noncores.append(Seg(g.ts(), g.sid(), [
+        noncores.append(Segment(g.ts(), g.sid(), [
             g.entry(x, 0 if i == 0 else g.ifid(), 0 if i == n - 1 else g.ifid(),
                     peers_for(g, x, links, often=0.6))
             for i, x in enumerate(path)]))
@@ -362,13 +335,13 @@ def prof_network(g):
         for (a, ing, egr) in path:
             ps = []
             if with_peers:
-                for (b, fb, fa) in peers[a][:4]:
+                for (b, fb, fa) in peers[a][:MAX_PEERS]:
                     # The peer hop's egress is that of the regular hop.
-                    ps.append([b, fb, g.imtu(), g.units(), fa, egr, g.mac()])
+                    ps.append(Peer(b, fb, g.imtu(), g.units(), fa, egr, g.mac()))
             es.append(g.entry(a, ing, egr, ps))
-        return Seg(g.ts(), g.sid(), es)
-    cores = [seg(walk(r.choice(core), cl, 16), False) for _ in range(r.randint(0, 10))]
-    noncores = [seg(walk(r.choice(core), down, 16), True) for _ in range(r.randint(1, 24))]
+        return Segment(g.ts(), g.sid(), es)
+    cores = [seg(walk(r.choice(core), cl, MAX_ENTRIES), False) for _ in range(r.randint(0, 10))]
+    noncores = [seg(walk(r.choice(core), down, MAX_ENTRIES), True) for _ in range(r.randint(1, 24))]
     cores = [s for s in cores if len(s.entries) > 1 or g.p(0.05)]
     noncores = [s for s in noncores if len(s.entries) > 1 or g.p(0.05)]
     if g.p(0.2) and noncores:
@@ -387,7 +360,7 @@ def prof_loops(g):
         n = r.choice([0, 1, 1, 2, 3, 4])
         s = soup_seg(g, universe, links if g.p(0.5) else [], n, repeat=0.6)
         if n > 1 and g.p(0.5):
-            s.entries[0].as_ = s.entries[-1].as_
+            s.entries[0].isd_as = s.entries[-1].isd_as
         (cores if g.p(0.4) else noncores).append(s)
     s, d = pick_ends(g, cores, noncores, universe)
     return s, d, cores, noncores
@@ -405,8 +378,8 @@ def prof_bare(g):
 
 
 def prof_many(g):
-    """Up to 64 segments of few entries over few ASes: many solutions."""
-    return soup(g, (20, 64), (1, 3), (6, 24), (0, 8))
+    """Up to the most segments, of few entries over few ASes: many solutions."""
+    return soup(g, (20, MAX_SEGMENTS), (1, 3), (6, 24), (0, 8))
 
 
 def prof_crowd(g):
@@ -416,7 +389,7 @@ def prof_crowd(g):
     a, b, x, y = universe
     def seg(path):
         n = len(path)
-        return Seg(g.ts(), g.sid(), [
+        return Segment(g.ts(), g.sid(), [
             g.entry(p, 0 if i == 0 else g.ifid(), 0 if i == n - 1 else g.ifid())
             for i, p in enumerate(path)])
     cores = [seg(r.choice([[x, y], [y, x], [x, a, y]])) for _ in range(r.randint(1, 12))]
@@ -427,14 +400,15 @@ def prof_crowd(g):
 
 
 def prof_flood(g):
-    """Around 4,096 solutions and above, up to 9,261: three kinds of parallel segments."""
+    """About as many solutions as there are slots and above, up to 9,261: three kinds of parallel segments."""
     r = g.r
     a, b, x, y = g.asn(4)
-    n = r.choice([16, 16, 16, 17, 20, 21])
+    fit = max(k for k in range(MAX_SEGMENTS // 3) if k ** 3 <= layout.MAX_SOLUTIONS)
+    n = r.choice([fit, fit, fit, fit + 1, 20, 21])
     same = r.choice([0, 1, 1])
     def seg(path):
         k = len(path)
-        return Seg(g.ts(), g.sid(), [
+        return Segment(g.ts(), g.sid(), [
             g.entry(p, 0 if i == 0 else r.randint(1, 9), 0 if i == k - 1 else r.randint(1, 9))
             for i, p in enumerate(path)])
     def many(path):
@@ -442,8 +416,8 @@ def prof_flood(g):
             s = seg(path)
             out = []
             for i in range(n):
-                s = s.copy()
-                s.entries[0].mac = struct.pack(">HI", r.randrange(65536), i)
+                s = copied(s)
+                s.entries[0].mac = r.randrange(65536).to_bytes(2, "big") + i.to_bytes(MAC_SIZE - 2, "big")
                 out.append(s)
             return out
         return [seg(path) for _ in range(n)]
@@ -451,79 +425,80 @@ def prof_flood(g):
 
 
 def prof_limits(g):
-    """To the limits: 64 segments, 16 entries, 4 peers, as far as 61,440 bytes go."""
+    """To the limits of segments, entries and peers, as far as the bytes of a book go."""
     r = g.r
     universe = g.asn(r.choice([20, 60, 200]))
     links = links_between(g, universe, r.choice([5, 40, 200]))
     cores, noncores = [], []
-    size = 8
-    total = r.choice([64, 64, r.randint(20, 64)])
+    size = COUNTS.size
+    total = r.choice([MAX_SEGMENTS, MAX_SEGMENTS, r.randint(20, MAX_SEGMENTS)])
     ncore = r.randint(0, total // 2)
-    full = r.choice([16, 16, 10])
+    full = r.choice([MAX_ENTRIES, MAX_ENTRIES, 10])
     for i in range(total):
-        n = full if g.p(0.7) else r.randint(0, 16)
+        n = full if g.p(0.7) else r.randint(0, MAX_ENTRIES)
         s = soup_seg(g, universe, links if i >= ncore else [], n, repeat=0.02, peer=0.9)
-        room = MAX_BOOK - size - 10 * (total - i)
+        room = MAX_BOOK - size - HEAD.size * (total - i)
         while len(s.body()) > room:
             s.entries.pop()
-        size += 10 + len(s.body())
+        size += HEAD.size + len(s.body())
         (cores if i < ncore else noncores).append(s)
     s, d = pick_ends(g, cores, noncores, universe)
     return s, d, cores, noncores
 
 
 def prof_full(g):
-    """A book of just 61,440 bytes or a little less, of 16-entry segments with 4 peers each."""
+    """A book of as many bytes as are taken or a little less, of segments with all entries and peers."""
     r = g.r
     universe = g.asn(r.choice([24, 60]))
     links = links_between(g, universe, 400)
     cores, noncores = [], []
-    size = 8
+    size = COUNTS.size
     nc = r.randint(2, 8)
     while True:
-        s = soup_seg(g, universe, [], 16, repeat=0.0)
+        s = soup_seg(g, universe, [], MAX_ENTRIES, repeat=0.0)
         core = len(cores) < nc
         if not core:
             for e in s.entries:
                 e.peers = [g.peer(*x) for x in
-                           [(l[2], l[3], l[1]) for l in links if l[0] == e.as_][:4]]
-        if size + 10 + len(s.body()) > MAX_BOOK or len(cores) + len(noncores) == 64:
+                           [(l[2], l[3], l[1]) for l in links if l[0] == e.isd_as][:MAX_PEERS]]
+        if size + HEAD.size + len(s.body()) > MAX_BOOK or len(cores) + len(noncores) == MAX_SEGMENTS:
             break
-        size += 10 + len(s.body())
+        size += HEAD.size + len(s.body())
         (cores if core else noncores).append(s)
     s, d = pick_ends(g, cores, noncores, universe)
     return s, d, cores, noncores
 
 
 def prof_worst(g):
-    """Only by --profile: the most solutions known of a book of 61,440 bytes (20,224)."""
+    """Only by --profile: the most solutions known of a book, as many full segments to either end as it holds."""
     r = g.r
-    a, b, *up = g.asn(17)
+    a, b, *up = g.asn(MAX_ENTRIES + 1)
     g.zero = r.choice([0.0, 0.1])
+    half = (MAX_BOOK - COUNTS.size) // (HEAD.size + MAX_ENTRIES * (ENTRY.size + MAX_PEERS * PEER.size)) // 2
     def seg(leaf):
-        path = up[:15] + [leaf]
+        path = up + [leaf]
         es = []
         for i, x in enumerate(path):
             # Links from x to itself, the leaves' to each other: each side's entry matches.
             far = {a: b, b: a}.get(x, x)
-            es.append(g.entry(x, 0 if i == 0 else g.ifid(), 0 if i == 15 else g.ifid(),
-                              [g.peer(far, j + 1, j + 1) for j in range(4)]))
-        return Seg(g.ts(), g.sid(), es)
-    return a, b, [], [seg(a) for _ in range(16)] + [seg(b) for _ in range(16)]
+            es.append(g.entry(x, 0 if i == 0 else g.ifid(), 0 if x == leaf else g.ifid(),
+                              [g.peer(far, j + 1, j + 1) for j in range(MAX_PEERS)]))
+        return Segment(g.ts(), g.sid(), es)
+    return a, b, [], [seg(a) for _ in range(half)] + [seg(b) for _ in range(half)]
 
 
 def prof_longest(g):
-    """Three edges of 16 entries each."""
+    """As many edges as a solution has, of as many entries as a segment has."""
     r = g.r
-    ases = [0x0001FF0000000000 + i for i in range(48)]
+    ases = [0x0001FF0000000000 + i for i in range(layout.MAX_HOPS)]
     g.zero = r.choice([0.0, 0.0, 0.1])
     def seg(path):
         n = len(path)
         tidy = g.p(0.8)
-        return Seg(g.ts(), g.sid(), [
+        return Segment(g.ts(), g.sid(), [
             g.entry(p, 0 if i == 0 and tidy else g.ifid(), 0 if i == n - 1 and tidy else g.ifid())
             for i, p in enumerate(path)])
-    up, core, down = ases[:16], ases[16:32], ases[32:]
+    up, core, down = (ases[k * MAX_ENTRIES:(k + 1) * MAX_ENTRIES] for k in range(layout.MAX_EDGES))
     core[0], core[-1] = (up[0], down[0]) if g.p(0.5) else (down[0], up[0])
     return up[-1], down[-1], [seg(core)], [seg(up), seg(down)]
 
@@ -532,7 +507,7 @@ def prof_bad(g):
     """Mostly books that are refused: damaged, cut, over the limits."""
     r = g.r
     s, d, cores, noncores = prof_small(g)
-    b = bytearray(pack_book(cores, noncores))
+    b = bytearray(layout.book(cores, noncores))
     k = r.randrange(9)
     if k == 0:
         b = b[:r.randrange(len(b) + 1)]
@@ -541,17 +516,17 @@ def prof_bad(g):
     elif k == 2:
         b += bytes(MAX_BOOK + r.choice([0, 1]) - len(b))
     elif k == 3:
-        noncores += [Seg(0, 0, []) for _ in range(65 - len(cores) - len(noncores) - r.randint(0, 1))]
-        b = bytearray(pack_book(cores, noncores))
+        noncores += [Segment() for _ in range(MAX_SEGMENTS + 1 - len(cores) - len(noncores) - r.randint(0, 1))]
+        b = bytearray(layout.book(cores, noncores))
     elif k == 4:
-        noncores.append(soup_seg(g, g.asn(4), [], r.choice([16, 17, 18])))
-        b = bytearray(pack_book(cores, noncores))
+        noncores.append(soup_seg(g, g.asn(4), [], MAX_ENTRIES + r.choice([0, 1, 2])))
+        b = bytearray(layout.book(cores, noncores))
     elif k == 5:
         n = soup_seg(g, g.asn(4), [], 3)
         e = r.choice(n.entries)
-        e.peers = [g.peer(1, 2, 3) for _ in range(r.choice([4, 5, 5, 9]))]
+        e.peers = [g.peer(1, 2, 3) for _ in range(MAX_PEERS + r.choice([0, 1, 1, 5]))]
         noncores.append(n)
-        b = bytearray(pack_book(cores, noncores))
+        b = bytearray(layout.book(cores, noncores))
     elif k == 6:
         for _ in range(r.randint(1, 3)):
             if b:
@@ -565,11 +540,10 @@ def prof_bad(g):
         n = len(cores) + len(noncores)
         if n > 1:
             i, j = r.sample(range(n), 2)
-            at = lambda q: 8 + 10 * q + 8
-            li, lj = (struct.unpack_from(">H", b, at(q))[0] for q in (i, j))
+            li, lj = (HEAD.get(b, head_place(q), "body_length") for q in (i, j))
             m = r.randint(0, lj)
-            struct.pack_into(">H", b, at(i), min(65535, li + m))
-            struct.pack_into(">H", b, at(j), lj - m)
+            HEAD.put(b, head_place(i), "body_length", min(HEAD.of.body_length.most, li + m))
+            HEAD.put(b, head_place(j), "body_length", lj - m)
     return s, d, bytes(b)
 
 
@@ -594,11 +568,11 @@ def make(seed, index, profile=None):
         s, d, b = case
     else:
         s, d, cores, noncores = case
-        b = pack_book(cores, noncores)
+        b = layout.book(cores, noncores)
         # Now and then an end that no segment knows.
         if profile != "same_ends" and rng.random() < 0.01:
             d = 0x0002000000000001
-    return profile, struct.pack(">QQ", s, d) + b
+    return profile, ENDS.pack(s, d) + b
 
 
 def main():
@@ -617,7 +591,7 @@ def main():
     idx = open(o.index, "w") if o.index else None
     for i in range(o.count):
         name, case = make(o.seed, i, o.profile)
-        out.write(struct.pack(">I", len(case)) + case)
+        out.write(framed(case))
         if idx:
             idx.write(name + "\n")
 

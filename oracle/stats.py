@@ -1,14 +1,15 @@
 #!/usr/bin/env python3
-"""Statistics of an oracle run, and the router walk of demand 3 over the Rust's own paths.
+"""Statistics of an oracle run, and the router's walk (docs/SPECIFICATION.md 7) over the Rust's own paths.
 
     stats.py CASES.batch ORACLE.out [INDEX]
 
-Exit status 1 if a list is out of document 01's order or a router walk fails.
+Exit status 1 if a list is out of order (docs/SPECIFICATION.md 5) or a router walk fails.
 """
 import sys
 from collections import Counter, defaultdict
 
-from batch import book, cases, oracle_blocks, tie_key
+from batch import book, cases, layout, oracle_blocks, tie_key
+from booktext.layout import CONSTRUCTION, ENDS, PEERING
 
 
 def fold(sid, macs):
@@ -17,29 +18,31 @@ def fold(sid, macs):
     return sid
 
 
+def hop_of(x):
+    return x.units, x.ingress, x.egress, x.mac.hex()
+
+
 def router_ok(segs, s):
-    """Demand 3's comparison: ids held, infos, hops against the segments."""
+    """Ids held, infos, hops against the segments."""
     at = 0
     if len(s["infos"]) != s["n"]:
         return False
-    for (pos, sc, peer, d, _), (flags, sid, ts, count) in zip(s["edges"], s["infos"]):
-        t, seg_id, es = segs[pos]
-        n = len(es)
-        if flags != d + (0 if peer is None else 2) or count != n - sc or ts != t:
+    for edge, (flags, sid, ts, count) in zip(s["edges"], s["infos"]):
+        seg, sc, d = segs[edge.position], edge.shortcut, edge.direction
+        n = len(seg.entries)
+        if flags != (CONSTRUCTION if d else 0) + (0 if edge.peer is None else PEERING) or count != n - sc or ts != seg.timestamp:
             return False
         held = int(sid, 16)
         for j in range(count):
             m = sc + j if d else n - 1 - j
-            is_peer = bool(flags & 2) and j == (0 if d else count - 1)
+            is_peer = bool(flags & PEERING) and j == (0 if d else count - 1)
             mac = bytes.fromhex(s["hops"][at][3])
             if not d and not is_peer and j > 0:
                 held = fold(held, [mac])
-            e = es[m]
-            want = (e[7][peer][3:7] if is_peer else (e[5], e[3], e[4], e[6]))
-            u, i, g, mm = s["hops"][at]
-            if (u, i, g, bytes.fromhex(mm)) != tuple(want):
+            e = seg.entries[m]
+            if s["hops"][at] != hop_of(e.peers[edge.peer] if is_peer else e):
                 return False
-            if held != fold(seg_id, [x[6] for x in es[:m + 1 if is_peer else m]]):
+            if held != fold(seg.id, [x.mac for x in seg.entries[:m + 1 if is_peer else m]]):
                 return False
             if d and not is_peer:
                 held = fold(held, [mac])
@@ -61,34 +64,34 @@ def main():
             tot["undecodable"] += 1
             per[name]["undecodable"] += 1
             continue
-        b = case[16:]
+        source, destination = ENDS.unpack(case)
+        b = case[ENDS.size:]
         c, segs = book(b)
         feats["largest book"] = max(feats["largest book"], len(b))
         feats["most segments"] = max(feats["most segments"], len(segs))
         # Features of books.
-        rep = any(len({e[0] for e in es}) < len(es) for _, _, es in segs)
+        rep = any(len({e.isd_as for e in s.entries}) < len(s.entries) for s in segs)
         feats["books with a repeated AS in a segment"] += rep
-        feats["books with an empty segment"] += any(not es for _, _, es in segs)
-        feats["books with a one-entry segment"] += any(len(es) == 1 for _, _, es in segs)
-        keyed = [(p < c, t, d, repr(es)) for p, (t, d, es) in enumerate(segs)]
-        feats["books with equal segments"] += len(set(keyed)) < len(keyed)
-        feats["books with peers in a core segment"] += any(e[7] for _, _, es in segs[:c] for e in es)
+        feats["books with an empty segment"] += any(not s.entries for s in segs)
+        feats["books with a one-entry segment"] += any(len(s.entries) == 1 for s in segs)
+        feats["books with equal segments"] += len(set(map(repr, segs))) < len(segs)
+        feats["books with peers in a core segment"] += any(e.peers for s in segs if s.core for e in s.entries)
         over = False
-        for p, (_, _, es) in enumerate(segs):
-            if p < c or not es:
+        for s in segs:
+            if s.core:
                 continue
-            ends = [e[0] for e in es[:-1]]
-            pe = [(e[0], q[4], q[0], q[1]) for e in es for q in e[7]]
+            ends = [e.isd_as for e in s.entries[:-1]]
+            pe = [(e.isd_as, q.ingress, q.isd_as, q.interface) for e in s.entries for q in e.peers]
             over |= len(set(ends)) < len(ends) or len(set(pe)) < len(pe)
         feats["books where an edge overwrites another"] += over
         tot["accepted"] += 1
-        if case[:8] == case[8:16]:
+        if source == destination:
             tot["source = destination"] += 1
         tot["with solutions"] += bool(sols)
         tot["solutions"] += len(sols)
         per[name]["solutions"] += len(sols)
         most = max(most, len(sols))
-        keys = [tie_key(s) for s in sols]
+        keys = [tie_key(s["cost"], s["edges"]) for s in sols]
         if keys != sorted(keys):
             wrong += 1
             print("not in order: case", i)
@@ -97,8 +100,8 @@ def main():
                 tied += v
                 runs += 1
         for s in sols:
-            k = "".join("C" if e[0] < c else "N" for e in s["edges"])
-            if any(e[2] is not None for e in s["edges"]):
+            k = "".join("C" if e.position < c else "N" for e in s["edges"])
+            if any(e.peer is not None for e in s["edges"]):
                 k += "+peers"
             kinds[k] += 1
             verdicts[s["verdict"]] += 1
@@ -108,7 +111,7 @@ def main():
                 longest = max(longest, len(s["hops"]))
                 feats["most interfaces"] = max(feats["most interfaces"], len(s["ifs"]))
                 feats["paths with MTU 0"] += s["mtu"] == 0
-                feats["paths with expiry 2^32-1"] += s["expiry"] == 2**32 - 1
+                feats["paths with the last expiry"] += s["expiry"] == layout.PATH_HEAD.of.expiry.most
                 if not router_ok(segs, s):
                     wrong += 1
                     print("the router walk fails: case", i, s)

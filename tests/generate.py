@@ -2,22 +2,13 @@
 
     generate.cases(seed, count) gives (source, destination, book); the same seed gives the same books.
 """
+import os
 import random
-import struct
+import sys
 
-
-def packed(cores, others):
-    """Bytes of a book: a segment is (timestamp, id, entries), an entry (7 fields, peers), a peer 7 fields."""
-    segments = cores + others
-    bodies = []
-    for _, _, entries in segments:
-        body = b""
-        for (isd_as, mtu, ingress_mtu, ingress, egress, units, mac), peers in entries:
-            body += struct.pack(">QIHHHB6sB", isd_as, mtu, ingress_mtu, ingress, egress, units, mac, len(peers))
-            body += b"".join(struct.pack(">QHHBHH6s", *peer) for peer in peers)
-        bodies.append(body)
-    heads = [struct.pack(">IHHH", ts, ident, len(entries), len(body)) for (ts, ident, entries), body in zip(segments, bodies)]
-    return struct.pack(">HHI", len(cores), len(others), sum(map(len, bodies))) + b"".join(heads + bodies)
+sys.path.insert(0, os.path.join(os.path.dirname(os.path.abspath(__file__)), "..", "tools"))
+from booktext import layout  # noqa: E402
+from booktext.layout import COUNTS, ENTRY, HEAD, PEER, Entry, Peer, Segment, head_place  # noqa: E402
 
 
 class Maker:
@@ -29,23 +20,25 @@ class Maker:
         self.links = {}
 
     def interface(self):
-        return 0 if self.r.random() < self.zero else self.r.choice([1, 2, 3, 65535])
+        return 0 if self.r.random() < self.zero else self.r.choice([1, 2, 3, ENTRY.of.ingress.most])
 
     def mac(self):
-        return self.r.getrandbits(48).to_bytes(6, "big")
+        return self.r.getrandbits(8 * layout.MAC_SIZE).to_bytes(layout.MAC_SIZE, "big")
 
     def mtu(self, most):
         return self.r.choice([0, 1280, 1400, 1500, 9000, most, self.r.randint(0, most)])
 
+    def units(self):
+        return self.r.choice([0, 63, ENTRY.of.units.most])
+
     def segment(self, entries):
-        return (self.r.choice([0, 1000000, 1767247200, 2**32 - 1]), self.r.randrange(65536), entries)
+        return Segment(self.r.choice([0, 1000000, 1767247200, HEAD.of.timestamp.most]), self.r.randrange(HEAD.of.id.most + 1), entries)
 
     def entry(self, isd_as, ingress, egress, peers=()):
-        fields = (isd_as, self.mtu(2**32 - 1), self.mtu(65535), ingress, egress, self.r.choice([0, 63, 255]), self.mac())
-        return fields, list(peers)
+        return Entry(isd_as, self.mtu(ENTRY.of.mtu.most), self.mtu(ENTRY.of.ingress_mtu.most), ingress, egress, self.units(), self.mac(), peers=list(peers))
 
     def peer(self, isd_as, interface, ingress, egress):
-        return (isd_as, interface, self.mtu(65535), self.r.choice([0, 63, 255]), ingress, egress, self.mac())
+        return Peer(isd_as, interface, self.mtu(PEER.of.mtu.most), self.units(), ingress, egress, self.mac())
 
     def soup(self, segments, most):
         """Any ASes in any order, repeats and equal segments among them."""
@@ -54,7 +47,7 @@ class Maker:
             path = [self.r.choice(self.ases) for _ in range(self.r.randint(0, most))]
             entries = [self.entry(a, self.interface(), self.interface(),
                                   [self.peer(self.r.choice(self.ases), self.interface(), self.interface(), self.interface())
-                                   for _ in range(self.r.choice([0, 0, 0, 1, 4]))]) for a in path]
+                                   for _ in range(self.r.choice([0, 0, 0, 1, layout.MAX_PEERS]))]) for a in path]
             made.append(self.r.choice(made) if made and self.r.random() < 0.1 else self.segment(entries))
         cores = self.r.randint(0, segments)
         return made[:cores], made[cores:]
@@ -71,7 +64,7 @@ class Maker:
         for k, a in enumerate(path):
             ingress = self.link(path[k - 1], a)[1] if k else 0
             egress = self.link(a, path[k + 1])[0] if k + 1 < len(path) else 0
-            ends = [b if a == x else x for x, b in peers if a in (x, b)][:4]
+            ends = [b if a == x else x for x, b in peers if a in (x, b)][:layout.MAX_PEERS]
             entries.append(self.entry(a, ingress, egress, [self.peer(b, self.link(a, b)[1], self.link(a, b)[0], egress) for b in ends]))
         return self.segment(entries)
 
@@ -89,17 +82,17 @@ class Maker:
 
 
 def full(rng):
-    """A book of just 61,440 bytes or a little less, 64 segments."""
+    """A book of as many bytes as are taken or a little less, of as many segments."""
     maker = Maker(rng)
-    made, size = [], 8 + 64 * 10
-    for _ in range(64):
+    made, size, whole = [], head_place(layout.MAX_SEGMENTS), ENTRY.size + layout.MAX_PEERS * PEER.size
+    for _ in range(layout.MAX_SEGMENTS):
         entries = []
-        while len(entries) < 16 and size + 26 + 4 * 23 <= 61440:
+        while len(entries) < layout.MAX_ENTRIES and size + whole <= layout.MAX_BOOK:
             a = rng.choice(maker.ases)
-            entries.append(maker.entry(a, 1, 2, [maker.peer(a, 3, 4, 5)] * 4))
-            size += 26 + 4 * 23
+            entries.append(maker.entry(a, 1, 2, [maker.peer(a, 3, 4, 5)] * layout.MAX_PEERS))
+            size += whole
         made.append(maker.segment(entries))
-    return packed(made[:5], made[5:])
+    return layout.book(made[:5], made[5:])
 
 
 def damaged(rng, book):
@@ -109,21 +102,22 @@ def damaged(rng, book):
     if kind == 0:
         del book[rng.randint(0, len(book)):]
     elif kind == 1:
-        book += bytes(rng.choice([1, 10, 62000]))
+        book += bytes(rng.choice([1, HEAD.size, layout.MAX_BOOK + 560]))
     elif kind == 2:
         for _ in range(rng.randint(1, 3)):
             book[rng.randrange(min(len(book), 40))] = rng.choice([0, 1, 255, rng.randrange(256)])
     elif kind == 3:
         for _ in range(rng.randint(1, 9)):
             book[rng.randrange(len(book))] = rng.randrange(256)
-    elif kind == 4 and len(book) >= 18:
-        book[12 + 2] = 0
-        book[12 + 3] = rng.choice([0, 1, 15, 16, 17])
-    elif kind == 5 and len(book) >= 28:
-        # Two heads exchange a part of their body lengths, so that the sum stays.
-        one, two = book[17], book[27]
-        part = min(rng.randint(0, 30), one, 255 - two)
-        book[17], book[27] = one - part, two + part
+    elif kind == 4 and len(book) >= head_place(1):
+        most = layout.MAX_ENTRIES
+        HEAD.put(book, COUNTS.size, "entry_count", rng.choice([0, 1, most - 1, most, most + 1]))
+    elif kind == 5 and len(book) >= head_place(2):
+        # The first two heads exchange a part of their body lengths, so that the sum stays.
+        one, two = (HEAD.get(book, head_place(k), "body_length") for k in (0, 1))
+        part = min(rng.randint(0, 30), one, HEAD.of.body_length.most - two)
+        HEAD.put(book, head_place(0), "body_length", one - part)
+        HEAD.put(book, head_place(1), "body_length", two + part)
     return bytes(book)
 
 
@@ -133,4 +127,4 @@ def cases(seed, count):
         maker = Maker(rng)
         cores, others = maker.network() if k % 2 else maker.soup(rng.randint(0, 7), 5)
         source, destination = rng.sample(maker.ases, 2)
-        yield source, destination, packed(cores, others)
+        yield source, destination, layout.book(cores, others)

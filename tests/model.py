@@ -1,105 +1,89 @@
 #!/usr/bin/env python3
-"""A small model of listing, assembly and the printed list, written from document 01 alone.
+"""A small model of listing, assembly and the printed list, written from docs/SPECIFICATION.md alone.
 
-It shares no code with crates/ or tools/: tests and examples use it to tell what the others should answer. Run as a
-program it stands in for `list`: source 8, destination 8 and book on standard input, the printed list on standard output.
+It shares no code with crates/, and with tools/ only the layout of the bytes: tests and examples use it to tell what the others should answer. Run
+as a program it stands in for `list`: source, destination and book on standard input, the printed list on standard output.
 """
 import hashlib
-import struct
+import os
 import sys
 from collections import Counter, namedtuple
 
-Segment = namedtuple("Segment", "position core timestamp id entries body")
+sys.path.insert(0, os.path.join(os.path.dirname(os.path.abspath(__file__)), "..", "tools"))
+from booktext import layout  # noqa: E402
+from booktext.layout import CONSTRUCTION, COUNTS, ENDS, ENTRY, HEAD, PATH_HEAD, PEER, PEERING, FINGERPRINTED  # noqa: E402
+
+Segment = namedtuple("Segment", "position core timestamp id entries")
 Entry = namedtuple("Entry", "isd_as mtu ingress_mtu hop peers")
 Peer = namedtuple("Peer", "isd_as interface mtu hop")
 Hop = namedtuple("Hop", "units ingress egress mac")
 Edge = namedtuple("Edge", "segment start end shortcut peer weight")
 Path = namedtuple("Path", "infos hops interfaces mtu expiry")
 
-SLOTS = 4096
 
-
-# ---- the book
-
-def number(book, at, size):
-    return int.from_bytes(book[at:at + size], "big")
-
-
-def head(book, position):
-    return struct.unpack_from(">IHHH", book, 8 + 10 * position)
-
+# ---- the book: docs/SPECIFICATION.md 2 and 9.3
 
 def body_verdict(body, entries):
     at = 0
     for _ in range(entries):
-        if len(body) - at < 26:
-            return 7
-        peers = body[at + 25]
-        if peers > 4:
-            return 6
-        at += 26 + 23 * peers
+        if len(body) - at < ENTRY.size:
+            return layout.MISFIT
+        peers = body[at + ENTRY.at.peer_count]
+        if peers > layout.MAX_PEERS:
+            return layout.PEERS
+        at += ENTRY.size + PEER.size * peers
         if at > len(body):
-            return 7
-    return 0 if at == len(body) else 7
+            return layout.MISFIT
+    return 0 if at == len(body) else layout.MISFIT
 
 
 def verdict(book):
     """0 for an accepted book, else the number of the refusal."""
-    if len(book) > 61440:
-        return 3
-    if len(book) < 8:
-        return 1
-    count, total = number(book, 0, 2) + number(book, 2, 2), number(book, 4, 4)
-    if count > 64:
-        return 4
-    if len(book) < 8 + 10 * count + total:
-        return 1
-    if len(book) > 8 + 10 * count + total:
-        return 2
-    heads = [head(book, q) for q in range(count)]
-    if any(entries > 16 for _, _, entries, _ in heads):
-        return 5
-    if sum(length for _, _, _, length in heads) != total:
-        return 7
-    at = 8 + 10 * count
-    for _, _, entries, length in heads:
-        found = body_verdict(book[at:at + length], entries)
+    if len(book) > layout.MAX_BOOK:
+        return layout.OVERSIZE
+    if len(book) < COUNTS.size:
+        return layout.CUT
+    cores, non_cores, total = COUNTS.unpack(book)
+    count = cores + non_cores
+    if count > layout.MAX_SEGMENTS:
+        return layout.CROWDED
+    at = COUNTS.size + HEAD.size * count
+    if len(book) < at + total:
+        return layout.CUT
+    if len(book) > at + total:
+        return layout.SURPLUS
+    heads = [HEAD.unpack(book, COUNTS.size + HEAD.size * q) for q in range(count)]
+    if any(head.entry_count > layout.MAX_ENTRIES for head in heads):
+        return layout.LONG
+    if sum(head.body_length for head in heads) != total:
+        return layout.MISFIT
+    for head in heads:
+        found = body_verdict(book[at:at + head.body_length], head.entry_count)
         if found:
             return found
-        at += length
+        at += head.body_length
     return 0
 
 
-def entries_of(body, count):
-    entries, at = [], 0
-    for _ in range(count):
-        isd_as, mtu, ingress_mtu, ingress, egress, units, mac, peers = struct.unpack_from(">QIHHHB6sB", body, at)
-        at += 26
-        found = []
-        for _ in range(peers):
-            peer_as, interface, peer_mtu, peer_units, peer_in, peer_out, peer_mac = struct.unpack_from(">QHHBHH6s", body, at)
-            found.append(Peer(peer_as, interface, peer_mtu, Hop(peer_units, peer_in, peer_out, peer_mac)))
-            at += 23
-        entries.append(Entry(isd_as, mtu, ingress_mtu, Hop(units, ingress, egress, mac), found))
-    return entries
+def hop_of(x):
+    return Hop(x.units, x.ingress, x.egress, x.mac)
 
 
 def segments(book):
     """Those of an accepted book, equal ones once."""
-    cores, count = number(book, 0, 2), number(book, 0, 2) + number(book, 2, 2)
-    at, known, found = 8 + 10 * count, set(), []
-    for position in range(count):
-        timestamp, ident, entries, length = head(book, position)
-        body = book[at:at + length]
-        at += length
-        key = (position < cores, timestamp, ident, body)
-        if key not in known:
-            known.add(key)
-            found.append(Segment(position, position < cores, timestamp, ident, entries_of(body, entries), body))
+    known, found = set(), []
+    for position, s in enumerate(layout.read(book)):
+        key = (s.core, s.timestamp, s.id, s.body())
+        if key in known:
+            continue
+        known.add(key)
+        entries = [Entry(e.isd_as, e.mtu, e.ingress_mtu, hop_of(e), [Peer(p.isd_as, p.interface, p.mtu, hop_of(p)) for p in e.peers])
+                   for e in s.entries]
+        found.append(Segment(position, s.core, s.timestamp, s.id, entries))
     return found
 
 
-# ---- edges and chains
+# ---- edges and chains: docs/SPECIFICATION.md 3 and 4
 
 def stored(segment):
     """The stored edges of one segment; of those with equal ends the last stands."""
@@ -143,17 +127,17 @@ def chains(found, source, destination):
             if edge.end == (destination,):
                 if tuple(e.segment.core for e in longer) in KINDS:
                     complete.append(longer)
-            elif len(longer) < 3:
+            elif len(longer) < layout.MAX_EDGES:
                 extend(longer, edge.end)
 
     extend([], (source,))
     return complete
 
 
-# ---- order
+# ---- order: docs/SPECIFICATION.md 5
 
 def fingerprint(segment):
-    return hashlib.sha256(b"".join(struct.pack(">QHH", e.isd_as, e.hop.ingress, e.hop.egress) for e in segment.entries)).digest()
+    return hashlib.sha256(b"".join(FINGERPRINTED.pack(e.isd_as, e.hop.ingress, e.hop.egress) for e in segment.entries)).digest()
 
 
 def cost(chain):
@@ -170,7 +154,7 @@ def solutions(book, source, destination):
     return sorted(chains(segments(book), source, destination), key=place)
 
 
-# ---- assembly
+# ---- assembly: docs/SPECIFICATION.md 6
 
 def in_construction(edge):
     return edge.end == (edge.segment.entries[-1].isd_as,)
@@ -179,7 +163,7 @@ def in_construction(edge):
 def fold(segment, below):
     ident = segment.id
     for entry in segment.entries[:below]:
-        ident ^= number(entry.hop.mac, 0, 2)
+        ident ^= int.from_bytes(entry.hop.mac[:2], "big")
     return ident
 
 
@@ -196,7 +180,7 @@ def part(edge):
             mtus.append(peer.mtu)
         elif entry.ingress_mtu and not (i == s and s > 0):
             mtus.append(entry.ingress_mtu)
-        mtus.append(entry.mtu % 65536)
+        mtus.append(entry.mtu % (PATH_HEAD.of.mtu.most + 1))
         if hop.egress:
             interfaces.append((entry.isd_as, hop.egress))
         if hop.ingress and (i != s or s == 0 or peer):
@@ -208,10 +192,10 @@ def part(edge):
     k = s if along else n - 1
     if edge.peer is not None and s == k:
         k += 1
-    flags = (1 if along else 0) + (2 if edge.peer is not None else 0)
+    flags = (CONSTRUCTION if along else 0) + (PEERING if edge.peer is not None else 0)
     life = (min(h.units for h in hops) + 1) * 675 // 2
     info = (flags, fold(edge.segment, k), edge.segment.timestamp, len(hops))
-    return info, hops, interfaces, mtus, min(edge.segment.timestamp + life, 4294967295)
+    return info, hops, interfaces, mtus, min(edge.segment.timestamp + life, PATH_HEAD.of.expiry.most)
 
 
 def path(chain):
@@ -223,21 +207,21 @@ def path(chain):
     if max(Counter(isd_as for isd_as, _ in interfaces).values()) > 2:
         return "loop"
     return Path([p[0] for p in parts], [h for p in parts for h in p[1]], interfaces,
-                min([65535] + [m for p in parts for m in p[3]]), min(p[4] for p in parts))
+                min([PATH_HEAD.of.mtu.most] + [m for p in parts for m in p[3]]), min(p[4] for p in parts))
 
 
-# ---- the printed list
+# ---- the printed list: docs/SPECIFICATION.md 10
 
 def printed(data):
-    if len(data) < 16:
-        return "refused 1\n"
-    source, destination, book = number(data, 0, 8), number(data, 8, 8), data[16:]
+    if len(data) < ENDS.size:
+        return f"refused {layout.CUT}\n"
+    (source, destination), book = ENDS.unpack(data), data[ENDS.size:]
     refusal = verdict(book)
     if refusal:
         return f"refused {refusal}\n"
     found = solutions(book, source, destination)
-    if len(found) > SLOTS:
-        return "refused 8\n"
+    if len(found) > layout.MAX_SOLUTIONS:
+        return f"refused {layout.FULL}\n"
     paths = [path(chain) for chain in found]
     lines = [f"solutions {len(found)} paths {sum(isinstance(p, Path) for p in paths)}"]
     for k, (chain, p) in enumerate(zip(found, paths), 1):

@@ -6,7 +6,6 @@ import io
 import os
 import random
 import shutil
-import struct
 import subprocess
 import sys
 import tempfile
@@ -23,16 +22,17 @@ sys.path[:0] = [str(ROOT / "tools"), str(HERE)]
 
 import generate
 import model
-from booktext import BookError, dot, draw, isd_as, layout, notes, printed, text, times
+from booktext import BookError, dot, draw, isd_as, layout, notes, printed, refusal, text, times
+from booktext.layout import COUNTS, ENDS, ENTRY, HEAD, PEER, Entry, Peer, Segment
 from booktext.picture import COLOURS, Picture
 
 BOOK = ROOT / "tools" / "book"
 MODEL = HERE / "model.py"
 LIST = ROOT / "target" / "bin" / "list"
 
-A, B = 0x0001FF0000000111, 0x0001FF0000000110
+A, B, C = 0x0001FF0000000111, 0x0001FF0000000110, 0x0001FF0000000112
 
-# Document 01, "The printed list".
+# The worked example of docs/SPECIFICATION.md 10.6. Here and below, bytes and numbers that are expected stand as they are, not by name.
 WORKED_INPUT = bytes.fromhex(
     "0001ff0000000111" "0001ff0000000110"
     "0000" "0001" "00000034"
@@ -49,8 +49,8 @@ if 0001ff0000000110 5
 
 EXAMPLES = {"worked": ("1-ff00:0:111", "1-ff00:0:110"), "house": ("1-ff00:0:131", "1-ff00:0:141"), "core": ("1-ff00:0:111", "2-64498")}
 
-ENTRY = "entry 1-ff00:0:110 mtu 1500 ingress-mtu 0 ingress 0 egress 5 units 63 mac 010203040506"
-PEER = "peer 1-ff00:0:112 interface 2 mtu 1400 units 63 ingress 9 egress 5 mac f0f1f2f3f4f5"
+ENTRY_LINE = "entry 1-ff00:0:110 mtu 1500 ingress-mtu 0 ingress 0 egress 5 units 63 mac 010203040506"
+PEER_LINE = "peer 1-ff00:0:112 interface 2 mtu 1400 units 63 ingress 9 egress 5 mac f0f1f2f3f4f5"
 
 
 class Stream(io.TextIOWrapper):
@@ -92,18 +92,18 @@ def alone(*args, given=b""):
 
 
 def asked(source, destination, data):
-    return struct.pack(">QQ", source, destination) + data
+    return ENDS.pack(source, destination) + data
 
 
 def numbers(segments):
     """Bytes of a book with entry and body counts as given: segments are (entry count, body)."""
-    heads = b"".join(struct.pack(">IHHH", 0, 0, count, len(body)) for count, body in segments)
+    heads = b"".join(HEAD.pack(entry_count=count, body_length=len(body)) for count, body in segments)
     bodies = b"".join(body for _, body in segments)
-    return struct.pack(">HHI", 0, len(segments), len(bodies)) + heads + bodies
+    return COUNTS.pack(non_cores=len(segments), bodies=len(bodies)) + heads + bodies
 
 
 def entry(peers=0, following=b""):
-    return bytes(layout.ENTRY_SIZE - 1) + bytes([peers]) + following
+    return ENTRY.pack(peer_count=peers) + following
 
 
 class Names(unittest.TestCase):
@@ -131,28 +131,28 @@ class Names(unittest.TestCase):
 class RoundTrip(unittest.TestCase):
     def test_books(self):
         for _, _, data in generate.cases("round", 200):
-            words = text.written(layout.read(data))
+            words = text.written(refusal.read(data))
             self.assertEqual(layout.write(text.parse(words.encode())), data)
             self.assertEqual(text.written(text.parse(words.encode())), words)
-            noted = text.written(layout.read(data), notes=True)
+            noted = text.written(refusal.read(data), notes=True)
             self.assertEqual(layout.write(text.parse(noted.encode())), data)
 
     def test_fields(self):
-        # Against the model's own reading of the bytes.
-        for _, _, data in generate.cases("fields", 60):
-            segments = layout.read(data)
-            for s in model.segments(data):
-                found = segments[s.position]
-                self.assertEqual((found.core, found.timestamp, found.id), (s.core, s.timestamp, s.id))
-                self.assertEqual([(e.isd_as, e.mtu, e.ingress_mtu, e.units, e.ingress, e.egress, e.mac.to_bytes(6, "big")) for e in found.entries],
-                                 [(e.isd_as, e.mtu, e.ingress_mtu, *e.hop) for e in s.entries])
-                self.assertEqual([(p.isd_as, p.interface, p.mtu, p.units, p.ingress, p.egress, p.mac.to_bytes(6, "big")) for e in found.entries for p in e.peers],
-                                 [(p.isd_as, p.interface, p.mtu, *p.hop) for e in s.entries for p in e.peers])
+        data = WORKED_INPUT[ENDS.size:]
+        above = Entry(isd_as=B, mtu=1500, egress=5, units=63, mac=bytes.fromhex("010203040506"))
+        leaf = Entry(isd_as=A, mtu=1400, ingress_mtu=1350, ingress=7, units=63, mac=bytes.fromhex("0a0b0c0d0e0f"))
+        self.assertEqual(refusal.read(data), [Segment(timestamp=1000000, id=0x1234, entries=[above, leaf])])
+        # A peer, with a number in each field that tells it from the others.
+        peer = Peer(isd_as=C, interface=2, mtu=1400, units=63, ingress=9, egress=5, mac=bytes.fromhex("f0f1f2f3f4f5"))
+        above.peers.append(peer)
+        written = bytes.fromhex("0001ff0000000112" "0002" "0578" "3f" "0009" "0005" "f0f1f2f3f4f5")
+        self.assertEqual(above.bytes()[ENTRY.size:], written)
+        self.assertEqual(refusal.read(layout.write([Segment(entries=[above, leaf])])), [Segment(entries=[above, leaf])])
 
     def test_limits(self):
         data = generate.full(random.Random("full"))
-        self.assertGreater(len(data), layout.MAX_BOOK - 118)
-        self.assertEqual(layout.write(text.parse(text.written(layout.read(data)).encode())), data)
+        self.assertGreater(len(data), layout.MAX_BOOK - ENTRY.size - layout.MAX_PEERS * PEER.size)
+        self.assertEqual(layout.write(text.parse(text.written(refusal.read(data)).encode())), data)
 
     def test_command(self):
         for run in (book, alone):
@@ -164,17 +164,17 @@ class RoundTrip(unittest.TestCase):
     def test_files(self):
         with tempfile.TemporaryDirectory() as folder:
             words, data = Path(folder, "x.txt"), Path(folder, "x.book")
-            words.write_text(f"core timestamp 1 id 0002\n  {ENTRY}\n")
+            words.write_text(f"core timestamp 1 id 0002\n  {ENTRY_LINE}\n")
             self.assertEqual(book("encode", words, "-o", data), (0, b"", ""))
             self.assertEqual(book("decode", data, "-o", Path(folder, "y.txt")), (0, b"", ""))
             self.assertEqual(Path(folder, "y.txt").read_text(), words.read_text())
 
     def test_empty(self):
-        self.assertEqual(layout.write(text.parse(b"")), bytes(8))
-        self.assertEqual(text.written(layout.read(bytes(8))), "")
+        self.assertEqual(layout.write(text.parse(b"")), bytes(COUNTS.size))
+        self.assertEqual(text.written(refusal.read(bytes(COUNTS.size))), "")
 
     def test_free_text(self):
-        canonical = f"non-core timestamp 1767247200 id 12ab\n  {ENTRY}\n    {PEER}\n"
+        canonical = f"non-core timestamp 1767247200 id 12ab\n  {ENTRY_LINE}\n    {PEER_LINE}\n"
         free = ("# a comment\n\n\tnon-core id 12AB   timestamp 2026-01-01T06:00:00Z # issued\r\n"
                 "entry 0001ff0000000110 mac 010203040506 units 63 egress 5 ingress 0 ingress-mtu 00 mtu 1500\n\n"
                 "      peer 1-ff00:0:112 mac F0F1F2F3F4F5 interface 2 mtu 1400 units 63 ingress 9 egress 5")
@@ -191,17 +191,19 @@ class TextErrors(unittest.TestCase):
     def test_lines(self):
         head = "# first\ncore timestamp 1 id 0001\n"
         self.wrong("cores timestamp 1 id 0001", "1: a line begins with core, non-core, entry or peer, not 'cores'")
-        self.wrong(ENTRY, "1: an entry above the first segment")
-        self.wrong(head + PEER, "3: a peer with no entry above it in its segment")
+        self.wrong(ENTRY_LINE, "1: an entry above the first segment")
+        self.wrong(head + PEER_LINE, "3: a peer with no entry above it in its segment")
         self.wrong("non-core timestamp 1 id 0001\n\ncore timestamp 1 id 0001",
                    "3: a core segment below a non-core one: cores stand first, since positions count them first")
         self.wrong(head + "entry", "3: entry without its ISD-AS")
         self.wrong(head + "entry mtu 1500", "3: 'mtu' is no ISD-AS such as 1-ff00:0:110 or 0001ff0000000110")
         self.wrong("core timestamp 1", "1: core lacks id")
-        self.wrong(head + "entry 1-ff00:0:110 mtu 1500 units 63", "3: entry lacks ingress-mtu, ingress, egress, mac")
+        fields = [f.name for f in layout.ENTRY_FIELDS[1:]]
+        lacking = ", ".join(name for name in fields if name not in ("mtu", "units"))
+        self.wrong(head + "entry 1-ff00:0:110 mtu 1500 units 63", f"3: entry lacks {lacking}")
         self.wrong("core timestamp 1 id 0001 timestamp 2", "1: timestamp stands twice")
         self.wrong("core timestamp 1 id", "1: id without a value")
-        self.wrong(head + ENTRY + " latency 5", "3: entry has no field 'latency', its fields are mtu, ingress-mtu, ingress, egress, units, mac")
+        self.wrong(head + ENTRY_LINE + " colour 5", f"3: entry has no field 'colour', its fields are {', '.join(fields)}")
         self.wrong("core timestamp 1 id 0001 \xff".encode("latin-1"), "1: not UTF-8 text")
 
     def test_numbers(self):
@@ -211,18 +213,24 @@ class TextErrors(unittest.TestCase):
         self.wrong("core timestamp 2026-01-01T id 0001", "1: '2026-01-01T' is no time such as 2026-01-01T06:00:00Z")
         self.wrong("core timestamp 1969-12-31T23:59:59Z id 0001", "1: timestamp 1969-12-31T23:59:59Z is before 1970")
         self.wrong("core timestamp 1 id 123", "1: id is written in 4 hex digits, not '123'")
-        self.wrong(head + ENTRY.replace("egress 5", "egress 65536"), "2: egress 65536 is above 65535")
-        self.wrong(head + ENTRY.replace("mtu 1500", "mtu 0x5dc"), "2: mtu is a number in base ten, not '0x5dc'")
-        self.wrong(head + ENTRY.replace("units 63", "units 256"), "2: units 256 is above 255")
-        self.wrong(head + ENTRY.replace("010203040506", "01:02:03:04:05:06"), "2: mac is written in 12 hex digits, not '01:02:03:04:05:06'")
+        self.wrong(head + ENTRY_LINE.replace("egress 5", "egress 65536"), "2: egress 65536 is above 65535")
+        self.wrong(head + ENTRY_LINE.replace("mtu 1500", "mtu 0x5dc"), "2: mtu is a number in base ten, not '0x5dc'")
+        self.wrong(head + ENTRY_LINE.replace("units 63", "units 256"), "2: units 256 is above 255")
+        self.wrong(head + ENTRY_LINE.replace("010203040506", "01:02:03:04:05:06"), "2: mac is written in 12 hex digits, not '01:02:03:04:05:06'")
 
     def test_limits(self):
         head = "core timestamp 1 id 0001\n"
-        self.wrong(head * 65, "65: more than 64 segments (refusal 4, Crowded)")
-        self.wrong(head + f"{ENTRY}\n" * 17, "18: more than 16 entries in segment 0 (refusal 5, Long)")
-        self.wrong(head + f"{ENTRY}\n" + f"{PEER}\n" * 5, "7: more than 4 peers at entry 0 of segment 0 (refusal 6, Peers)")
-        self.wrong((head + (f"{ENTRY}\n" + f"{PEER}\n" * 4) * 16) * 64,
-                   "2623: the book has 61462 bytes up to here, at most 61440 are taken (refusal 3, Oversize)")
+        segments, entries, peers = layout.MAX_SEGMENTS, layout.MAX_ENTRIES, layout.MAX_PEERS
+        self.wrong(head * (segments + 1), f"{segments + 1}: more than {segments} segments (refusal 4, Crowded)")
+        self.wrong(head + f"{ENTRY_LINE}\n" * (entries + 1), f"{entries + 2}: more than {entries} entries in segment 0 (refusal 5, Long)")
+        self.wrong(head + f"{ENTRY_LINE}\n" + f"{PEER_LINE}\n" * (peers + 1),
+                   f"{peers + 3}: more than {peers} peers at entry 0 of segment 0 (refusal 6, Peers)")
+        full = (head + (f"{ENTRY_LINE}\n" + f"{PEER_LINE}\n" * peers) * entries) * segments
+        sizes, line, size = {"core": HEAD.size, "entry": ENTRY.size, "peer": PEER.size}, 0, COUNTS.size
+        while size <= layout.MAX_BOOK:
+            size += sizes[full.splitlines()[line].split()[0]]
+            line += 1
+        self.wrong(full, f"{line}: the book has {size} bytes up to here, at most {layout.MAX_BOOK} are taken (refusal 3, Oversize)")
 
     def test_command(self):
         for run in (book, alone):
@@ -234,47 +242,52 @@ class TextErrors(unittest.TestCase):
 class Refusals(unittest.TestCase):
     def refused(self, data, number, place, reason):
         with self.subTest(reason=reason):
-            found = layout.verdict(data)
+            found = refusal.verdict(data)
             self.assertEqual((found.number, found.place, found.reason), (number, place, reason))
             self.assertEqual(model.verdict(data), number)
 
     def test_each_with_its_place(self):
-        worked = WORKED_INPUT[16:]
+        worked = WORKED_INPUT[ENDS.size:]
         self.refused(bytes(61441), 3, "", "the book has 61441 bytes, at most 61440 are taken")
         self.refused(bytes(7), 1, "byte 7", "the book has 7 bytes, its sizes alone take 8")
         self.refused(b"", 1, "byte 0", "the book has 0 bytes, its sizes alone take 8")
-        self.refused(struct.pack(">HHI", 65, 0, 0), 4, "", "65 core and 0 non-core segments are 65, at most 64 are taken")
-        sum_of = "0 core and 1 non-core segments with bodies of 52 bytes make a book of 70"
+        self.refused(COUNTS.pack(65, 0, 0), 4, "", "65 core and 0 non-core segments are 65, at most 64 are taken")
+        size = ENTRY.size
+        whole, last = 18 + 2 * size, 18 + size + ENTRY.at.peer_count
+        sum_of = f"0 core and 1 non-core segments with bodies of {2 * size} bytes make a book of {whole}"
         self.refused(worked[:17], 1, "segment 0 (non-core), byte 17", f"{sum_of}, this one ends at 17, in a head")
         self.refused(worked[:18], 1, "segment 0 (non-core), entry 0, byte 18", f"{sum_of}, this one ends at 18")
-        self.refused(worked[:69], 1, "segment 0 (non-core), entry 1, byte 69", f"{sum_of}, this one ends at 69")
-        self.refused(worked + b"\0", 2, "byte 70", f"{sum_of}, this one has 71")
-        self.refused(numbers([(1, entry()), (17, entry())]), 5, "segment 1 (non-core), byte 18", "its head counts 17 entries, at most 16 are taken")
-        self.refused(numbers([(2, entry() + entry(5))]), 6, "segment 0 (non-core), entry 1, byte 69", "it counts 5 peers, at most 4 are taken")
+        self.refused(worked[:-1], 1, f"segment 0 (non-core), entry 1, byte {whole - 1}", f"{sum_of}, this one ends at {whole - 1}")
+        self.refused(worked + b"\0", 2, f"byte {whole}", f"{sum_of}, this one has {whole + 1}")
+        most = layout.MAX_ENTRIES
+        self.refused(numbers([(1, entry()), (most + 1, entry())]), 5, "segment 1 (non-core), byte 18",
+                     f"its head counts {most + 1} entries, at most {most} are taken")
+        self.refused(numbers([(2, entry() + entry(5))]), 6, f"segment 0 (non-core), entry 1, byte {last}", "it counts 5 peers, at most 4 are taken")
         uneven = bytearray(numbers([(1, entry()), (1, entry())]))
-        uneven[17] -= 1
-        self.refused(bytes(uneven), 7, "byte 4", "the body lengths in the heads sum to 51, the sizes say 52")
-        self.refused(numbers([(2, entry() + bytes(25))]), 7, "segment 0 (non-core), entry 1, byte 44",
-                     "25 bytes left in the body for an entry of 26 (its head counts 2 entries)")
-        self.refused(numbers([(0, b""), (1, entry(2, bytes(45)))]), 7, "segment 1 (non-core), entry 0, byte 54", "45 bytes left in the body for 2 peers of 23")
-        self.refused(numbers([(1, entry() + b"\0")]), 7, "segment 0 (non-core), byte 44", "1 byte left in the body after its 1 entry")
+        HEAD.put(uneven, COUNTS.size, "body_length", len(entry()) - 1)
+        self.refused(bytes(uneven), 7, "byte 4", f"the body lengths in the heads sum to {2 * size - 1}, the sizes say {2 * size}")
+        self.refused(numbers([(2, entry() + bytes(size - 1))]), 7, f"segment 0 (non-core), entry 1, byte {18 + size}",
+                     f"{size - 1} bytes left in the body for an entry of {size} (its head counts 2 entries)")
+        self.refused(numbers([(0, b""), (1, entry(2, bytes(45)))]), 7, f"segment 1 (non-core), entry 0, byte {28 + size}",
+                     "45 bytes left in the body for 2 peers of 23")
+        self.refused(numbers([(1, entry() + b"\0")]), 7, f"segment 0 (non-core), byte {18 + size}", "1 byte left in the body after its 1 entry")
 
     def test_order(self):
         # Long at any head before the sum, the sum before any body, bodies by position.
-        long = bytearray(numbers([(1, entry(5)), (17, b"")]))
-        self.assertEqual(layout.verdict(bytes(long)).number, 5)
-        long[4:8] = (0).to_bytes(4, "big")
-        self.assertEqual(layout.verdict(bytes(long)).number, 2)
+        long = bytearray(numbers([(1, entry(5)), (layout.MAX_ENTRIES + 1, b"")]))
+        self.assertEqual(refusal.verdict(bytes(long)).number, 5)
+        COUNTS.put(long, 0, "bodies", 0)
+        self.assertEqual(refusal.verdict(bytes(long)).number, 2)
         both = numbers([(1, entry() + b"\0"), (1, entry(5))])
-        self.assertEqual(layout.verdict(both).number, 7)
-        self.assertEqual(layout.verdict(struct.pack(">HHI", 64, 1, 2**32 - 1)).number, 4)
-        self.assertEqual(layout.verdict(struct.pack(">HHI", 64, 0, 2**32 - 1)).number, 1)
+        self.assertEqual(refusal.verdict(both).number, 7)
+        self.assertEqual(refusal.verdict(COUNTS.pack(64, 1, 2**32 - 1)).number, 4)
+        self.assertEqual(refusal.verdict(COUNTS.pack(64, 0, 2**32 - 1)).number, 1)
 
     def test_at_the_limits(self):
-        self.assertIsNone(layout.verdict(bytes(8)))
-        self.assertIsNone(layout.verdict(numbers([(0, b"")] * 64)))
-        self.assertIsNone(layout.verdict(numbers([(16, entry() * 16)])))
-        self.assertIsNone(layout.verdict(numbers([(1, entry(4, bytes(4 * 23)))])))
+        self.assertIsNone(refusal.verdict(bytes(COUNTS.size)))
+        self.assertIsNone(refusal.verdict(numbers([(0, b"")] * layout.MAX_SEGMENTS)))
+        self.assertIsNone(refusal.verdict(numbers([(layout.MAX_ENTRIES, entry() * layout.MAX_ENTRIES)])))
+        self.assertIsNone(refusal.verdict(numbers([(1, entry(layout.MAX_PEERS, bytes(layout.MAX_PEERS * PEER.size)))])))
 
     def test_damaged(self):
         seen = Counter()
@@ -282,30 +295,33 @@ class Refusals(unittest.TestCase):
             rng = random.Random(f"damaged/{k}")
             for _ in range(5):
                 broken = generate.damaged(rng, data)
-                found = layout.verdict(broken)
+                found = refusal.verdict(broken)
                 self.assertEqual(found.number if found else 0, model.verdict(broken))
                 if found:
                     self.assertTrue(str(found).startswith(f"refused {found.number} ({layout.WORDS[found.number]})"))
                 else:
-                    self.assertEqual(layout.write(layout.read(broken)), broken)
+                    self.assertEqual(layout.write(refusal.read(broken)), broken)
                 seen[found.number if found else 0] += 1
-        self.assertEqual(set(seen), set(range(8)))
+        self.assertEqual(set(seen), {0, *range(layout.CUT, layout.MISFIT + 1)})
 
     def test_command(self):
-        status, out, _ = book("check", given=numbers([(1, entry()), (17, entry())]))
+        most = layout.MAX_ENTRIES
+        status, out, _ = book("check", given=numbers([(1, entry()), (most + 1, entry())]))
         self.assertEqual((status, out.decode()),
-                         (1, "refused 5 (Long), at segment 1 (non-core), byte 18: its head counts 17 entries, at most 16 are taken\n"))
+                         (1, f"refused 5 (Long), at segment 1 (non-core), byte 18: its head counts {most + 1} entries, at most {most} are taken\n"))
         status, out, said = book("decode", given=bytes(7))
         self.assertEqual((status, out, said),
                          (1, b"", "book: <standard input>: refused 1 (Cut), at byte 7: the book has 7 bytes, its sizes alone take 8\n"))
 
     def test_accepted(self):
-        status, out, _ = book("check", ROOT / "examples" / "house.book")
-        self.assertEqual((status, out.decode()), (0, "accepted: 1 core and 4 non-core segments, 14 entries, 2 peers, 468 of 61440 bytes\n"))
+        house = ROOT / "examples" / "house.book"
+        status, out, _ = book("check", house)
+        self.assertEqual((status, out.decode()),
+                         (0, f"accepted: 1 core and 4 non-core segments, 14 entries, 2 peers, {house.stat().st_size} of {layout.MAX_BOOK} bytes\n"))
 
     def test_notes(self):
-        segments = text.parse(f"core timestamp 1 id 0001\n{ENTRY}\n{PEER}\nnon-core timestamp 1 id 0001\n{ENTRY}\n{ENTRY}\n{PEER}\n"
-                              f"non-core timestamp 1 id 0001\n{ENTRY}\n{ENTRY}\n{PEER}\nnon-core timestamp 1 id 0001\n".encode())
+        segments = text.parse(f"core timestamp 1 id 0001\n{ENTRY_LINE}\n{PEER_LINE}\nnon-core timestamp 1 id 0001\n{ENTRY_LINE}\n{ENTRY_LINE}\n{PEER_LINE}\n"
+                              f"non-core timestamp 1 id 0001\n{ENTRY_LINE}\n{ENTRY_LINE}\n{PEER_LINE}\nnon-core timestamp 1 id 0001\n".encode())
         self.assertEqual(notes.notes(segments), [
             "segment 0, entry 0: peers of a core segment yield no edges",
             "segment 1, entry 1: 1-ff00:0:110 stands earlier in the segment",
@@ -345,7 +361,7 @@ if 0001ff0000000110 5      1-ff00:0:110#5
         self.assertEqual((status, out.decode()), (1, "refused 1 (Cut), at byte 7: the book has 7 bytes, its sizes alone take 8\n"))
         status, out, _ = book("list", "--plain", "--program", MODEL, "1-1", "1-2", given=bytes(7))
         self.assertEqual((status, out), (1, b"refused 1\n"))
-        self.assertEqual(printed.refusal_words(8, bytes(8)), "refused 8 (Full): more than 4096 solutions")
+        self.assertEqual(printed.refusal_words(8, bytes(8)), f"refused 8 (Full): more than {layout.MAX_SOLUTIONS} solutions")
 
     def test_program(self):
         status, _, said = book("list", "--program", "/no/such/list", "1-1", "1-2", given=bytes(8))
@@ -384,7 +400,7 @@ class Drawing(unittest.TestCase):
     def picture(self, name="house", **options):
         source, destination = map(isd_as.parse, EXAMPLES[name])
         data = (ROOT / "examples" / f"{name}.book").read_bytes()
-        return Picture(layout.read(data), source, destination, printed.parse(model.printed(asked(source, destination, data))), {}, **options)
+        return Picture(refusal.read(data), source, destination, printed.parse(model.printed(asked(source, destination, data))), {}, **options)
 
     def dot(self, picture):
         return dot.dot_text(picture, {a: k for k, a in enumerate(picture.ases)}, forced=True)
@@ -404,8 +420,8 @@ class Drawing(unittest.TestCase):
 
     def test_text(self):
         words = self.dot(self.picture())
-        for expected in ("5 solutions, 5 paths", "1767264000", "2026-01-01T10:40:00Z", "1-ff00:0:131 2&gt;2 1-ff00:0:121 3&gt;3 1-ff00:0:112 2&gt;1 1-ff00:0:141",
-                         "style=dashed", "destination", *COLOURS[:5]):
+        for expected in ("5 solutions, 5 paths", "1767264000", "2026-01-01T10:40:00Z",
+                         "1-ff00:0:131 2&gt;2 1-ff00:0:121 3&gt;3 1-ff00:0:112 2&gt;1 1-ff00:0:141", "style=dashed", "destination", *COLOURS[:5]):
             self.assertIn(expected, words)
         self.assertNotIn(COLOURS[5], words)
 
@@ -422,20 +438,19 @@ class Drawing(unittest.TestCase):
 
     def test_unlisted(self):
         # The middle AS shows no interface, so that the path leaps over it.
-        words = "non-core timestamp 0 id 0000\n" + "".join(
-            f"entry 1-{k} mtu 1500 ingress-mtu 0 ingress {i} egress {e} units 0 mac 000000000000\n" for k, i, e in ((1, 0, 5), (2, 0, 0), (3, 7, 0)))
-        segments = text.parse(words.encode())
-        source, destination = isd_as.parse("1-3"), isd_as.parse("1-1")
+        top, middle, leaf = (isd_as.parse(f"1-{k}") for k in (1, 2, 3))
+        segments = [Segment(entries=[Entry(isd_as=top, mtu=1500, egress=5), Entry(isd_as=middle, mtu=1500), Entry(isd_as=leaf, mtu=1500, ingress=7)])]
+        source, destination = leaf, top
         answer = printed.parse(model.printed(asked(source, destination, layout.write(segments))))
         picture = Picture(segments, source, destination, answer, {})
         self.assertEqual([link.kind for link in picture.links if link.paths], ["unlisted"])
-        self.assertEqual([picture.level[isd_as.parse(f"1-{k}")] for k in (1, 2, 3)], [0, 1, 2])
+        self.assertEqual([picture.level[a] for a in (top, middle, leaf)], [0, 1, 2])
         self.assertIn("style=dotted", self.dot(picture))
 
     def test_generated(self):
         for source, destination, data in generate.cases("draw", 60):
             answer = printed.parse(model.printed(asked(source, destination, data)))
-            picture = Picture(layout.read(data), source, destination, answer, {source: 'a "name" <b> & \\'})
+            picture = Picture(refusal.read(data), source, destination, answer, {source: 'a "name" <b> & \\'})
             words = self.dot(picture)
             for a in picture.ases:
                 self.assertIn(f"{dot.node(a)} [label=", words)
@@ -479,25 +494,26 @@ class Drawing(unittest.TestCase):
 
 
 class Model(unittest.TestCase):
-    """Document 01's bench cases, so that the model deserves to be asked."""
-    MAC = bytes.fromhex("010203040506")
+    """Cases whose answers the specification settles, so that the model deserves to be asked."""
+    MAC, LEAF_MAC = bytes.fromhex("010203040506"), bytes.fromhex("0a0b0c0d0e0f")
 
     def two(self, mtu=1500, units=63, timestamp=1000000, peers=()):
-        entries = [((B, mtu, 0, 0, 5, units, self.MAC), list(peers)), ((A, 9000, 0, 7, 0, units, bytes.fromhex("0a0b0c0d0e0f")), [])]
-        return timestamp, 0x1234, entries
+        above = Entry(isd_as=B, mtu=mtu, egress=5, units=units, mac=self.MAC, peers=list(peers))
+        return Segment(timestamp, 0x1234, [above, Entry(isd_as=A, mtu=9000, ingress=7, units=units, mac=self.LEAF_MAC)])
 
     def listed(self, source, destination, *segments):
-        return model.printed(asked(source, destination, generate.packed([], list(segments))))
+        return model.printed(asked(source, destination, layout.write(segments)))
 
     def test_worked(self):
         self.assertEqual(model.printed(WORKED_INPUT), WORKED_LIST)
-        turned = model.printed(WORKED_INPUT[8:16] + WORKED_INPUT[:8] + WORKED_INPUT[16:])
+        turned = model.printed(asked(B, A, WORKED_INPUT[ENDS.size:]))
         self.assertIn("info 1 1234 1000000\n", turned)
 
     def test_peers(self):
-        c = 0x0001FF0000000112
-        one = (0, 0, [((c, 1500, 0, 0, 0, 63, bytes.fromhex("0a0b0c0d0e0f")), [(B, 9, 1500, 63, 2, 0, self.MAC)])])
-        answer = self.listed(c, A, self.two(peers=[(c, 2, 1500, 63, 9, 5, b"\xf0" * 6)]), one)
+        back = Peer(isd_as=B, interface=9, mtu=1500, units=63, ingress=2, mac=self.MAC)
+        one = Segment(entries=[Entry(isd_as=C, mtu=1500, units=63, mac=self.LEAF_MAC, peers=[back])])
+        link = Peer(isd_as=C, interface=2, mtu=1500, units=63, ingress=9, egress=5, mac=bytes.fromhex("f0f0f0f0f0f0"))
+        answer = self.listed(C, A, self.two(peers=[link]), one)
         self.assertIn("info 2 0a0b 0\ninfo 3 1336 1000000\n", answer)
 
     def test_life(self):
@@ -509,18 +525,17 @@ class Model(unittest.TestCase):
         self.assertIn(" mtu 4464 ", self.listed(A, B, self.two(mtu=70000)))
 
     def test_loop_and_bare(self):
-        c = 0x0001FF0000000112
         def pair(top, low, ingress, egress):
-            return 0, 0, [((top, 1500, 0, ingress, egress, 0, self.MAC), []), ((low, 1500, 0, 1, 0, 0, self.MAC), [])]
-        self.assertEqual(self.listed(A, c, pair(B, A, 0, 1), pair(B, c, 3, 2)), "solutions 1 paths 0\n1 cost 2 segments 2 loop\n")
-        self.assertIn("paths 1\n", self.listed(A, c, pair(B, A, 0, 1), pair(B, c, 0, 2)))
-        bare = 0, 0, [((x, 1500, 0, 0, 0, 0, self.MAC), []) for x in (B, A)]
+            return Segment(entries=[Entry(isd_as=top, mtu=1500, ingress=ingress, egress=egress), Entry(isd_as=low, mtu=1500, ingress=1)])
+        self.assertEqual(self.listed(A, C, pair(B, A, 0, 1), pair(B, C, 3, 2)), "solutions 1 paths 0\n1 cost 2 segments 2 loop\n")
+        self.assertIn("paths 1\n", self.listed(A, C, pair(B, A, 0, 1), pair(B, C, 0, 2)))
+        bare = Segment(entries=[Entry(isd_as=x, mtu=1500) for x in (B, A)])
         self.assertEqual(self.listed(A, B, bare), "solutions 1 paths 0\n1 cost 1 segments 1 bare\n")
 
     def test_short_input(self):
-        self.assertEqual(model.printed(bytes(15)), "refused 1\n")
-        self.assertEqual(model.printed(bytes(16)), "refused 1\n")
-        self.assertEqual(model.printed(bytes(24)), "solutions 0 paths 0\n")
+        self.assertEqual(model.printed(bytes(ENDS.size - 1)), "refused 1\n")
+        self.assertEqual(model.printed(bytes(ENDS.size)), "refused 1\n")
+        self.assertEqual(model.printed(bytes(ENDS.size + COUNTS.size)), "solutions 0 paths 0\n")
 
 
 class Examples(unittest.TestCase):
@@ -530,12 +545,12 @@ class Examples(unittest.TestCase):
                 words, data, listed = (ROOT / "examples" / f"{name}.{kind}" for kind in ("txt", "book", "list"))
                 self.assertEqual(book("encode", words), (0, data.read_bytes(), ""))
                 plain = [line for line in words.read_text().splitlines() if line and not line.startswith("#")]
-                self.assertEqual(text.written(layout.read(data.read_bytes())).splitlines(), plain)
+                self.assertEqual(text.written(refusal.read(data.read_bytes())).splitlines(), plain)
                 self.assertEqual(book("list", "--plain", "--program", MODEL, source, destination, data), (0, listed.read_bytes(), ""))
                 self.assertIn(f"| `{name}` | {source} | {destination} |", (ROOT / "examples" / "README.md").read_text())
 
     def test_worked(self):
-        self.assertEqual((ROOT / "examples" / "worked.book").read_bytes(), WORKED_INPUT[16:])
+        self.assertEqual((ROOT / "examples" / "worked.book").read_bytes(), WORKED_INPUT[ENDS.size:])
         self.assertEqual((ROOT / "examples" / "worked.list").read_text(), WORKED_LIST)
 
     def test_picture(self):
@@ -559,8 +574,8 @@ class Manual(unittest.TestCase):
         page = (ROOT / "man" / "book.1").read_text().replace("\\-", "-")
         for word in ("encode", "decode", "check", "list", "draw", "--notes", "--plain", "--program", "--names", "--paths", "--used", "--title", "-o"):
             self.assertIn(word, page)
-        for number, word in layout.WORDS.items():
-            self.assertIn(word, (ROOT / "man" / "list.1").read_text(), number)
+        for number in range(layout.CUT, layout.FULL + 1):
+            self.assertIn(layout.WORDS[number], (ROOT / "man" / "list.1").read_text(), number)
 
 
 if __name__ == "__main__":

@@ -100,14 +100,14 @@ fn print_path(out: &mut String, path: &ScionPath) -> Vec<u8> {
 struct Flags {
     /// Without `combine`'s rule for equal ends.
     no_wrapper: bool,
-    /// Print a refusal's number (of document 01's table; the Rust has none).
+    /// Print a refusal's number (of the specification's table; the Rust has none).
     numbers: bool,
 }
 
 /// The canonical text of one case: source, destination, book.
 fn block(out: &mut String, case: &[u8], flags: Flags) {
     let decoded = match split(case) {
-        None => Err(1),
+        None => Err(book::CUT),
         Some((source, destination, bytes)) => {
             book::decode::<true>(bytes, true).map(|book| (source, destination, book))
         }
@@ -141,8 +141,8 @@ fn block(out: &mut String, case: &[u8], flags: Flags) {
             // The graph refers to the first of equal segments.
             assert!(book.first[e.position] == e.position);
             let leaf = book.segments[e.position].last_ia().map(Vertex::AS);
-            let direction = (Some(e.dst) == leaf) as u8;
-            directions.push(direction | if e.edge.peer.is_some() { 2 } else { 0 });
+            let direction = if Some(e.dst) == leaf { book::CONSTRUCTION } else { 0 };
+            directions.push(direction | if e.edge.peer.is_some() { book::PEERING } else { 0 });
             write!(out, "edge {} {} ", e.position, e.edge.shortcut_idx).unwrap();
             match e.edge.peer {
                 Some(p) => write!(out, "{p}").unwrap(),
@@ -165,8 +165,8 @@ fn block(out: &mut String, case: &[u8], flags: Flags) {
 }
 
 fn split(case: &[u8]) -> Option<(IsdAsn, IsdAsn, &[u8])> {
-    let (s, rest) = case.split_first_chunk::<8>()?;
-    let (d, book) = rest.split_first_chunk::<8>()?;
+    let (s, rest) = case.split_first_chunk::<{ book::AS_SIZE }>()?;
+    let (d, book) = rest.split_first_chunk::<{ book::AS_SIZE }>()?;
     Some((
         IsdAsn(u64::from_be_bytes(*s)),
         IsdAsn(u64::from_be_bytes(*d)),

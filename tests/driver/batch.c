@@ -7,6 +7,9 @@
 #include "common.h"
 #include "model.h"
 
+/* Bytes that the text shows of a fingerprint, as the oracle's does. */
+#define FINGERPRINT_SHOWN 4
+
 static uint8_t list[COMBINATOR_LIST_SIZE];
 static uint8_t path[COMBINATOR_PATH_SIZE];
 
@@ -19,30 +22,30 @@ static void print_hex(const uint8_t *p, size_t n)
 
 static void print_path(void)
 {
-    const uint8_t *at = path + 26, *id;
-    unsigned i, interfaces = path[2];
-    printf(" %" PRIu64 " %" PRIu64, number(path + 4, 2), number(path + 6, 4));
-    for (i = 0; i < path[0]; i++, at += 8)
-        printf(" %u %04" PRIx64 " %" PRIu64 " %u", at[0], number(at + 2, 2), number(at + 4, 4), at[1]);
-    for (i = 0; i < path[1]; i++, at += 11) {
-        printf(" %u %" PRIu64 " %" PRIu64 " ", at[0], number(at + 1, 2), number(at + 3, 2));
-        print_hex(at + 5, 6);
+    const uint8_t *info = path_infos(path), *hop = path_hops(path), *as = path_ases(path), *id = path_ids(path);
+    printf(" %u %" PRIu32, number16(path + COMBINATOR_PATH_MTU), number32(path + COMBINATOR_PATH_EXPIRY));
+    for (; info < path_hops(path); info += COMBINATOR_INFO_SIZE)
+        printf(" %u %04x %" PRIu32 " %u", info[COMBINATOR_INFO_FLAGS], number16(info + COMBINATOR_INFO_ID), number32(info + COMBINATOR_INFO_TIMESTAMP),
+               info[COMBINATOR_INFO_HOP_COUNT]);
+    for (; hop < path_ases(path); hop += COMBINATOR_HOP_SIZE) {
+        printf(" %u %u %u ", hop[COMBINATOR_HOP_UNITS], number16(hop + COMBINATOR_HOP_INGRESS), number16(hop + COMBINATOR_HOP_EGRESS));
+        print_hex(hop + COMBINATOR_HOP_MAC, COMBINATOR_MAC_SIZE);
     }
-    for (id = at + 8 * interfaces, i = 0; i < interfaces; i++, at += 8, id += 2)
-        printf(" %016" PRIx64 " %" PRIu64, number(at, 8), number(id, 2));
+    for (; as < path_ids(path); as += COMBINATOR_AS_SIZE, id += COMBINATOR_INTERFACE_ID_SIZE)
+        printf(" %016" PRIx64 " %u", number64(as), number16(id));
 }
 
-/* What the text does not show of a path: the zero byte, the ends' ASes, the zeros after it, demand 3. */
+/* What the text does not show of a path: the zero byte, the ends' ASes, the zeros after it, the router's ids. */
 static void check_path(const struct input *c, const uint8_t *record, size_t at)
 {
-    const uint8_t *as = path + 26 + 8 * path[0] + 11 * path[1];
     size_t i;
     const char *fault = router_fault(c, record, path);
     if (fault)
         fail("case %zu: the router does not agree: %s", at, fault);
-    if (path[3] || path_length(path) > sizeof path || path[2] == 0)
+    if (path[COMBINATOR_PATH_ZERO] || path_length(path) > sizeof path || path[COMBINATOR_PATH_INTERFACE_COUNT] == 0)
         fail("case %zu: a path's counts", at);
-    if (memcmp(path + 10, as, 8) || memcmp(path + 18, as + 8 * (path[2] - 1), 8))
+    if (memcmp(path + COMBINATOR_PATH_FIRST_AS, path_ases(path), COMBINATOR_AS_SIZE) ||
+        memcmp(path + COMBINATOR_PATH_LAST_AS, path_ids(path) - COMBINATOR_AS_SIZE, COMBINATOR_AS_SIZE))
         fail("case %zu: first or last interface's AS", at);
     for (i = path_length(path); i < sizeof path; i++)
         if (path[i])
@@ -51,29 +54,29 @@ static void check_path(const struct input *c, const uint8_t *record, size_t at)
 
 static void print_solution(const struct input *c, const uint8_t *record, size_t at)
 {
-    unsigned i, count;
+    unsigned i, count, edges = record[COMBINATOR_RECORD_EDGE_COUNT];
     const struct segment *segment = model_segments(c->book, c->book_len, &count);
     uint32_t answer;
 
-    if (record[2] < 1 || record[2] > 3 || record[3])
+    if (edges < 1 || edges > COMBINATOR_MAX_EDGES || record[COMBINATOR_RECORD_ZERO])
         fail("case %zu: a record of no solution", at);
-    printf("%" PRIu64 " %u", number(record, 2), record[2]);
-    for (i = 0; i < 3; i++) {
-        const uint8_t *edge = record + 4 + 4 * i;
-        if (i >= record[2]) {
-            if (number(edge, 4))
+    printf("%u %u", number16(record + COMBINATOR_RECORD_COST), edges);
+    for (i = 0; i < COMBINATOR_MAX_EDGES; i++) {
+        const uint8_t *edge = record + edge_place(i);
+        if (i >= edges) {
+            if (number(edge, COMBINATOR_EDGE_SIZE))
                 fail("case %zu: an unused edge is not zero", at);
             continue;
         }
-        if (edge[0] >= count)
+        if (edge[COMBINATOR_EDGE_POSITION] >= count)
             fail("case %zu: a position outside of the book", at);
-        printf(" %u %u ", edge[0], edge[1]);
-        if (edge[2])
-            printf("%u", edge[2] - 1u);
+        printf(" %u %u ", edge[COMBINATOR_EDGE_POSITION], edge[COMBINATOR_EDGE_SHORTCUT]);
+        if (edge[COMBINATOR_EDGE_PEER])
+            printf("%u", edge[COMBINATOR_EDGE_PEER] - 1u);
         else
             putchar('-');
-        printf(" %u ", edge[3]);
-        print_hex(segment[edge[0]].fingerprint, 4);
+        printf(" %u ", edge[COMBINATOR_EDGE_DIRECTION]);
+        print_hex(segment[edge[COMBINATOR_EDGE_POSITION]].fingerprint, FINGERPRINT_SHOWN);
     }
     memset(path, 0xa5, sizeof path);
     answer = combinator_assemble(c->src, c->dst, c->book, c->book_len, record, COMBINATOR_RECORD_SIZE, path, sizeof path);
@@ -100,7 +103,7 @@ int batch_mode(int args, char **arg)
     batch = read_file(arg[0], &len);
     for (n = 0; next_case(batch, len, &at, &c); n++) {
         const uint8_t *records = list;
-        uint32_t answer = COMBINATOR_CUT; /* of an input under 16 bytes */
+        uint32_t answer = COMBINATOR_CUT; /* of an input that ends before the book */
         if (c.book) {
             memset(list, 0xa5, sizeof list);
             answer = combinator_list(c.src, c.dst, c.book, c.book_len, list, sizeof list);

@@ -8,77 +8,90 @@ void build_start(struct build *b)
 {
     b->cores = b->noncores = 0;
     b->length = 0;
-    b->entry = NULL;
+    b->head = b->entry = b->peer = NULL;
 }
 
-static uint8_t *last_head(struct build *b)
+/* Adds to the number of 16 bits. */
+static void add16(uint8_t *at, size_t n)
 {
-    return b->heads + 10 * (b->cores + b->noncores - 1);
+    put16(at, number16(at) + (unsigned)n);
 }
 
+/* Room for `n` more bytes of the last body, zero. */
 static uint8_t *more(struct build *b, size_t n)
 {
-    uint8_t *head = last_head(b), *at = b->bodies + b->length;
+    uint8_t *at = b->bodies + b->length;
     if (b->length + n > sizeof b->bodies)
         fail("a book too large to build");
     memset(at, 0, n);
     b->length += n;
-    put(head + 8, 2, number(head + 8, 2) + n);
+    add16(b->head + COMBINATOR_HEAD_BODY_LENGTH, n);
     return at;
 }
 
 void build_segment(struct build *b, int core, uint32_t timestamp, unsigned id)
 {
-    uint8_t *head;
-    if ((core && b->noncores > 0) || b->cores + b->noncores >= sizeof b->heads / 10)
+    if ((core && b->noncores > 0) || b->cores + b->noncores >= BUILD_SEGMENTS)
         fail("a segment that does not fit");
+    b->head = b->heads + COMBINATOR_HEAD_SIZE * (b->cores + b->noncores);
     if (core)
         b->cores++;
     else
         b->noncores++;
-    head = last_head(b);
-    memset(head, 0, 10);
-    put(head, 4, timestamp);
-    put(head + 4, 2, id);
-    b->entry = NULL;
+    memset(b->head, 0, COMBINATOR_HEAD_SIZE);
+    put32(b->head + COMBINATOR_HEAD_TIMESTAMP, timestamp);
+    put16(b->head + COMBINATOR_HEAD_ID, id);
+    b->entry = b->peer = NULL;
+}
+
+void build_again(struct build *b, int core, uint32_t timestamp, unsigned id)
+{
+    const uint8_t *before = b->head, *body;
+    size_t n = number16(before + COMBINATOR_HEAD_BODY_LENGTH);
+    body = b->bodies + b->length - n;
+    build_segment(b, core, timestamp, id);
+    put16(b->head + COMBINATOR_HEAD_ENTRY_COUNT, number16(before + COMBINATOR_HEAD_ENTRY_COUNT));
+    memcpy(more(b, n), body, n);
 }
 
 void build_entry(struct build *b, uint64_t as, unsigned ingress, unsigned egress, uint64_t mac)
 {
-    uint8_t *head = last_head(b), *e = more(b, 26);
-    put(head + 6, 2, number(head + 6, 2) + 1);
-    put(e, 8, as);
-    put(e + 8, 4, 1500);
-    put(e + 12, 2, 1400);
-    put(e + 14, 2, ingress);
-    put(e + 16, 2, egress);
-    e[18] = 63;
-    put(e + 19, 6, mac);
+    uint8_t *e = more(b, COMBINATOR_ENTRY_SIZE);
+    add16(b->head + COMBINATOR_HEAD_ENTRY_COUNT, 1);
+    put64(e + COMBINATOR_ENTRY_AS, as);
+    put32(e + COMBINATOR_ENTRY_MTU, 1500);
+    put16(e + COMBINATOR_ENTRY_INGRESS_MTU, 1400);
+    put16(e + COMBINATOR_ENTRY_INGRESS, ingress);
+    put16(e + COMBINATOR_ENTRY_EGRESS, egress);
+    e[COMBINATOR_ENTRY_UNITS] = 63;
+    put(e + COMBINATOR_ENTRY_MAC, COMBINATOR_MAC_SIZE, mac);
     b->entry = e;
+    b->peer = NULL;
 }
 
 void build_peer(struct build *b, uint64_t as, unsigned interface, unsigned ingress, unsigned egress, uint64_t mac)
 {
-    uint8_t *p = more(b, 23);
-    b->entry[25]++;
-    put(p, 8, as);
-    put(p + 8, 2, interface);
-    put(p + 10, 2, 1350);
-    p[12] = 63;
-    put(p + 13, 2, ingress);
-    put(p + 15, 2, egress);
-    put(p + 17, 6, mac);
+    uint8_t *p = more(b, COMBINATOR_PEER_SIZE);
+    b->entry[COMBINATOR_ENTRY_PEER_COUNT]++;
+    put64(p + COMBINATOR_PEER_AS, as);
+    put16(p + COMBINATOR_PEER_INTERFACE, interface);
+    put16(p + COMBINATOR_PEER_MTU, 1350);
+    p[COMBINATOR_PEER_UNITS] = 63;
+    put16(p + COMBINATOR_PEER_INGRESS, ingress);
+    put16(p + COMBINATOR_PEER_EGRESS, egress);
+    put(p + COMBINATOR_PEER_MAC, COMBINATOR_MAC_SIZE, mac);
+    b->peer = p;
 }
 
 size_t build_book(const struct build *b, uint8_t *out)
 {
-    size_t heads = 10 * (b->cores + b->noncores);
-    put(out, 2, b->cores);
-    put(out + 2, 2, b->noncores);
-    put(out + 4, 4, b->length);
-    memcpy(out + 8, b->heads, heads);
-    memcpy(out + 8 + heads, b->bodies, b->length);
-    return 8 + heads + b->length;
+    size_t bodies = head_place(b->cores + b->noncores);
+    put16(out + COMBINATOR_COUNTS_CORES, b->cores);
+    put16(out + COMBINATOR_COUNTS_NON_CORES, b->noncores);
+    put32(out + COMBINATOR_COUNTS_BODIES, (uint32_t)b->length);
+    memcpy(out + COMBINATOR_COUNTS_SIZE, b->heads, bodies - COMBINATOR_COUNTS_SIZE);
+    memcpy(out + bodies, b->bodies, b->length);
+    return bodies + b->length;
 }
 
 static struct build b;
@@ -88,10 +101,10 @@ size_t build_worked(uint8_t *out)
     build_start(&b);
     build_segment(&b, 0, 1000000, 0x1234);
     build_entry(&b, AS_DESTINATION, 0, 5, 0x010203040506);
-    put(b.entry + 12, 2, 0);
+    put16(b.entry + COMBINATOR_ENTRY_INGRESS_MTU, 0);
     build_entry(&b, AS_SOURCE, 7, 0, 0x0a0b0c0d0e0f);
-    put(b.entry + 8, 4, 1400);
-    put(b.entry + 12, 2, 1350);
+    put32(b.entry + COMBINATOR_ENTRY_MTU, 1400);
+    put16(b.entry + COMBINATOR_ENTRY_INGRESS_MTU, 1350);
     return build_book(&b, out);
 }
 
@@ -116,6 +129,21 @@ size_t build_chains(uint8_t *out, unsigned ups, unsigned cores, unsigned downs, 
     return build_book(&b, out);
 }
 
+size_t build_slots(uint8_t *out, unsigned more, int ties)
+{
+    unsigned ups, cores, best_ups = 0, best_cores = 0, least = COMBINATOR_MAX_SEGMENTS - more;
+    /* Of the ways to write the slots as a product of three, the one of the fewest segments. */
+    for (ups = 1; ups < COMBINATOR_MAX_SEGMENTS; ups++)
+        for (cores = 1; cores < COMBINATOR_MAX_SEGMENTS; cores++)
+            if (COMBINATOR_MAX_SOLUTIONS % (ups * cores) == 0 && ups + cores + COMBINATOR_MAX_SOLUTIONS / (ups * cores) < least) {
+                least = ups + cores + COMBINATOR_MAX_SOLUTIONS / (ups * cores);
+                best_ups = ups, best_cores = cores;
+            }
+    if (!best_ups)
+        fail("no book has just as many chains as there are slots");
+    return build_chains(out, best_ups + more, best_cores, COMBINATOR_MAX_SOLUTIONS / (best_ups * best_cores), ties);
+}
+
 size_t build_few(uint8_t *out, unsigned segments, unsigned entries, unsigned peers)
 {
     uint64_t top = AS_DESTINATION + 0x1000;
@@ -126,7 +154,7 @@ size_t build_few(uint8_t *out, unsigned segments, unsigned entries, unsigned pee
         build_segment(&b, 0, 1000000, i);
         for (j = 0; j < entries; j++) {
             uint64_t as = j + 1 == entries ? leaf : j == 0 ? top : top + 0x100 * i + j;
-            build_entry(&b, as, j == 0 ? 0 : 1 + i, j + 1 == entries ? 0 : 1 + i, 0x010203040506 + 16 * i + j);
+            build_entry(&b, as, j == 0 ? 0 : 1 + i, j + 1 == entries ? 0 : 1 + i, 0x010203040506 + COMBINATOR_MAX_ENTRIES * i + j);
             for (p = 0; p < peers; p++)
                 build_peer(&b, top + 0x100000 + p, 1 + p, 100 + p, 1 + i, 0x0a0b0c0d0e0f + p);
         }
@@ -144,7 +172,7 @@ size_t build_worst(uint8_t *out, unsigned half, unsigned entries, unsigned peers
         build_segment(&b, 0, 1000000, i);
         for (j = 0; j < entries; j++) {
             uint64_t as = j + 1 == entries ? leaf : top + j;
-            build_entry(&b, as, j == 0 ? 0 : 1 + i, j + 1 == entries ? 0 : 1 + i, 0x010203040506 + 16 * i + j);
+            build_entry(&b, as, j == 0 ? 0 : 1 + i, j + 1 == entries ? 0 : 1 + i, 0x010203040506 + COMBINATOR_MAX_ENTRIES * i + j);
             /* Links from an AS to itself, the leaves' to each other: each side's entry matches. */
             for (p = 0; p < peers; p++)
                 build_peer(&b, as == leaf ? other : as, 1 + p, 1 + p, 1 + i, 0x0a0b0c0d0e0f + p);
@@ -161,9 +189,9 @@ size_t build_links(uint8_t *out, unsigned half)
     for (i = 0; i < 2 * half; i++) {
         uint64_t leaf = i < half ? AS_SOURCE : AS_DESTINATION, local = i < half ? x : y, far = i < half ? y : x;
         build_segment(&b, 0, 1000000, i);
-        for (j = 0; j < 16; j++) {
-            build_entry(&b, j == 15 ? leaf : local, 1, 1, 0x010203040506 + 16 * i + j);
-            for (p = 0; p < 4; p++, n++) {
+        for (j = 0; j < COMBINATOR_MAX_ENTRIES; j++) {
+            build_entry(&b, j + 1 == COMBINATOR_MAX_ENTRIES ? leaf : local, 1, 1, 0x010203040506 + COMBINATOR_MAX_ENTRIES * i + j);
+            for (p = 0; p < COMBINATOR_MAX_PEERS; p++, n++) {
                 if (i < half)
                     build_peer(&b, far, 7, 1 + n, 1, 0x0a0b0c0d0e0f);
                 else
@@ -180,9 +208,10 @@ size_t build_alike(uint8_t *out, unsigned segments)
     build_start(&b);
     for (i = 0; i < segments; i++) {
         build_segment(&b, 0, 1000000, 7);
-        for (j = 0; j < 16; j++) {
-            build_entry(&b, AS_DESTINATION + 0x1000 + j, 1, 1, j == 15 ? i : 0);
-            if (j < 15)
+        for (j = 0; j < COMBINATOR_MAX_ENTRIES; j++) {
+            int last = j + 1 == COMBINATOR_MAX_ENTRIES;
+            build_entry(&b, AS_DESTINATION + 0x1000 + j, 1, 1, last ? i : 0);
+            if (!last)
                 build_peer(&b, AS_DESTINATION + 0x2000, 1, 1, 1, 0);
         }
     }

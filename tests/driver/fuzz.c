@@ -20,9 +20,15 @@
 #include "common.h"
 #include "model.h"
 
-#define MAX_BOOK 80000
-#define MAX_OUT 140000
+/* Room for books, records and outputs past their limits; guard bytes; how many records of a list are used again. */
+#define MAX_BOOK (COMBINATOR_MAX_BOOK + 20000)
+#define MAX_RECORD (4 * COMBINATOR_RECORD_SIZE)
+#define MAX_OUT (2 * COMBINATOR_LIST_SIZE + 10000)
 #define GUARD 64
+#define LISTED 64
+
+/* Bytes of so many slots. */
+#define SLOTS(n) (COMBINATOR_RECORD_SIZE * (size_t)(n))
 
 /* ---- choices */
 
@@ -115,7 +121,7 @@ static struct {
     uint64_t src, dst;
     uint8_t book[MAX_BOOK];
     size_t book_len;
-    uint8_t record[64];
+    uint8_t record[MAX_RECORD];
     size_t record_len;
 } now;
 
@@ -126,7 +132,7 @@ struct longest {
 };
 
 static struct longest longest_list, longest_assemble;
-static uint64_t refused[11], paths, loops, bares;
+static uint64_t refused[COMBINATOR_LAST_REFUSAL + 1], paths, loops, bares;
 
 static void print_bytes(const char *name, const uint8_t *p, size_t n)
 {
@@ -160,12 +166,6 @@ static uint8_t expected[MAX_OUT];
 
 /* No call takes longer than include/combinator.h says. The thread's clock counts time too in which a virtual machine was taken off its
  * processor: a call that seems long is made again, and the least time counts. */
-#ifndef LIST_NS
-#define LIST_NS 20000000u
-#endif
-#ifndef ASSEMBLE_NS
-#define ASSEMBLE_NS 2000000u
-#endif
 #define TRIES 5
 
 struct call {
@@ -238,7 +238,7 @@ static const uint8_t *check(int assemble, size_t out_len, uint32_t *answered)
     if (ns > longest->ns)
         ns = least(&it, ns);
     /* Not under valgrind, which makes all slower. */
-    if (!undefined && ns > (assemble ? ASSEMBLE_NS : LIST_NS))
+    if (!undefined && ns > (assemble ? COMBINATOR_ASSEMBLE_NS : COMBINATOR_LIST_NS))
         wrong(call, "longer than stated", out_len, answer, want);
     if (ns > longest->ns) {
         longest->ns = ns;
@@ -301,7 +301,7 @@ static void draw_book(void)
 {
     uint64_t as[10];
     struct link link[8];
-    uint64_t leaf[64];
+    uint64_t leaf[COMBINATOR_MAX_SEGMENTS];
     unsigned ases = 2 + pick(9), links = pick(9), interfaces = 1 + pick(3), zero = 1 + pick(8), leaves = 0, segments, cores, i, j, k, p;
     int large = one_in(40), tidy = one_in(2);
 
@@ -315,37 +315,34 @@ static void draw_book(void)
         link[i].interface = pick(3);
         link[i].other_interface = pick(3);
     }
-    segments = large ? 20 + pick(45) : pick(8);
+    segments = large ? 20 + pick(COMBINATOR_MAX_SEGMENTS - 19) : pick(8);
     cores = pick(segments + 1) / (1 + pick(3));
     build_start(&b);
     for (i = 0; i < segments; i++) {
-        unsigned entries = large ? pick(17) : one_in(12) ? pick(17) : pick(6);
-        uint8_t *body = b.bodies + b.length;
-        if (8 + 10 * segments + b.length + 16 * (26 + 4 * 23) > MAX_BOOK)
+        unsigned entries = large ? pick(COMBINATOR_MAX_ENTRIES + 1) : one_in(12) ? pick(COMBINATOR_MAX_ENTRIES + 1) : pick(6);
+        if (head_place(segments) + b.length + FULL_BODY > MAX_BOOK)
             break;
         if (i != cores && i > 0 && one_in(5)) {
             /* The segment before, once more: equal, or of another timestamp, id or byte. */
-            uint8_t *head = b.heads + 10 * (i - 1);
-            size_t n = (size_t)number(head + 8, 2);
-            build_segment(&b, i < cores, (uint32_t)number(head, 4) + (one_in(4) ? 1 : 0), (unsigned)number(head + 4, 2) ^ (one_in(4) ? 1 : 0));
-            memcpy(body, body - n, n);
-            memcpy(head + 10 + 6, head + 6, 4);
-            b.length += n;
-            /* A byte that is neither a peer count nor the AS, as the first entry has them. */
-            if (n && one_in(3))
-                body[8 + pick(17)] ^= (uint8_t)(1 + pick(255));
+            uint8_t *body = b.bodies + b.length;
+            build_again(&b, i < cores, number32(b.head + COMBINATOR_HEAD_TIMESTAMP) + (one_in(4) ? 1 : 0),
+                        number16(b.head + COMBINATOR_HEAD_ID) ^ (one_in(4) ? 1 : 0));
+            /* A byte of the first entry between its AS and its peer count. */
+            if (number16(b.head + COMBINATOR_HEAD_BODY_LENGTH) && one_in(3))
+                body[COMBINATOR_ENTRY_MTU + pick(COMBINATOR_ENTRY_PEER_COUNT - COMBINATOR_ENTRY_MTU)] ^= (uint8_t)(1 + pick(255));
             continue;
         }
-        build_segment(&b, i < cores, one_in(6) ? (uint32_t)draw() : one_in(6) ? UINT32_MAX - pick(400) : 1000000, (unsigned)draw() & 0xffff);
+        build_segment(&b, i < cores, one_in(6) ? (uint32_t)draw() : one_in(6) ? UINT32_MAX - pick(400) : 1000000, (unsigned)draw() & UINT16_MAX);
         for (j = 0; j < entries; j++) {
-            unsigned in = tidy && j == 0 ? 0 : one_in(zero) ? 0 : 1 + pick(interfaces), eg = tidy && j + 1 == entries ? 0 : one_in(zero) ? 0 : 1 + pick(interfaces);
-            build_entry(&b, as[pick(ases)], in, eg, draw());
+            unsigned ingress = (tidy && j == 0) || one_in(zero) ? 0 : 1 + pick(interfaces);
+            unsigned egress = (tidy && j + 1 == entries) || one_in(zero) ? 0 : 1 + pick(interfaces);
+            build_entry(&b, as[pick(ases)], ingress, egress, draw());
             if (one_in(5))
-                put(b.entry + 8, 4, one_in(2) ? 65536 + pick(3) : draw());
-            put(b.entry + 12, 2, one_in(3) ? 0 : one_in(4) ? draw() : 1280 + pick(200));
-            b.entry[18] = (uint8_t)(one_in(3) ? draw() : 63);
-            for (k = 0, p = 0; k < links && p < 4; k++) {
-                uint64_t here = number(b.entry, 8);
+                put32(b.entry + COMBINATOR_ENTRY_MTU, one_in(2) ? UINT16_MAX + 1 + pick(3) : (uint32_t)draw());
+            put16(b.entry + COMBINATOR_ENTRY_INGRESS_MTU, one_in(3) ? 0 : one_in(4) ? (unsigned)draw() : 1280 + pick(200));
+            b.entry[COMBINATOR_ENTRY_UNITS] = (uint8_t)(one_in(3) ? draw() : 63);
+            for (k = 0, p = 0; k < links && p < COMBINATOR_MAX_PEERS; k++) {
+                uint64_t here = number64(b.entry + COMBINATOR_ENTRY_AS);
                 int side = here == link[k].as ? 0 : here == link[k].other ? 1 : -1;
                 if (side < 0 ? !one_in(12) : one_in(3))
                     continue;
@@ -353,15 +350,15 @@ static void draw_book(void)
                     build_peer(&b, link[k].as, link[k].interface, link[k].other_interface, pick(3), draw());
                 else
                     build_peer(&b, link[k].other, link[k].other_interface, link[k].interface, pick(3), draw());
-                put(b.bodies + b.length - 13, 2, one_in(4) ? 0 : draw());
-                b.bodies[b.length - 11] = (uint8_t)(one_in(2) ? draw() : 63);
+                put16(b.peer + COMBINATOR_PEER_MTU, one_in(4) ? 0 : (unsigned)draw());
+                b.peer[COMBINATOR_PEER_UNITS] = (uint8_t)(one_in(2) ? draw() : 63);
                 p++;
                 if (one_in(5) && k > 0)
                     k--; /* the same link once more */
             }
         }
-        if (entries && leaves < 64)
-            leaf[leaves++] = number(b.entry, 8);
+        if (entries)
+            leaf[leaves++] = number64(b.entry + COMBINATOR_ENTRY_AS);
     }
     now.book_len = build_book(&b, now.book);
     now.src = leaves && !one_in(4) ? leaf[pick(leaves)] : as[pick(ases)];
@@ -372,7 +369,15 @@ static void draw_book(void)
 
 static unsigned segment_count(void)
 {
-    return now.book_len < 8 ? 0 : (unsigned)(number(now.book, 2) + number(now.book + 2, 2));
+    if (now.book_len < COMBINATOR_COUNTS_SIZE)
+        return 0;
+    return number16(now.book + COMBINATOR_COUNTS_CORES) + number16(now.book + COMBINATOR_COUNTS_NON_CORES);
+}
+
+/* Does the book hold the heads of so many segments, and may it? */
+static int heads_fit(unsigned segments)
+{
+    return segments <= COMBINATOR_MAX_SEGMENTS && now.book_len >= head_place(segments);
 }
 
 static void damage_bytes(void)
@@ -408,12 +413,12 @@ static void damage_counts(void)
         size_t at;
         int size = 2;
         uint64_t v;
-        if (segments && segments <= 64 && now.book_len >= 8 + 10 * segments && !one_in(3))
-            at = 8 + 10 * pick(segments) + (one_in(2) ? 6 : 8);
+        if (segments && heads_fit(segments) && !one_in(3))
+            at = head_place(pick(segments)) + (one_in(2) ? COMBINATOR_HEAD_ENTRY_COUNT : COMBINATOR_HEAD_BODY_LENGTH);
         else if (one_in(2))
-            at = 4, size = 4;
+            at = COMBINATOR_COUNTS_BODIES, size = COMBINATOR_COUNTS_SIZE - COMBINATOR_COUNTS_BODIES;
         else
-            at = one_in(2) ? 0 : 2;
+            at = one_in(2) ? COMBINATOR_COUNTS_CORES : COMBINATOR_COUNTS_NON_CORES;
         if (at + (size_t)size > now.book_len)
             return;
         v = number(now.book + at, size);
@@ -428,10 +433,10 @@ static void damage_counts(void)
             v = draw();
             break;
         case 3:
-            v += 26;
+            v += COMBINATOR_ENTRY_SIZE;
             break;
         case 4:
-            v -= 23;
+            v -= COMBINATOR_PEER_SIZE;
             break;
         default:
             v += one_in(2) ? 1 : UINT64_MAX;
@@ -445,18 +450,18 @@ static void damage_split(void)
 {
     unsigned segments = segment_count(), i, j, n, room;
     uint8_t *from, *to;
-    if (segments < 2 || segments > 64 || now.book_len < 8 + 10 * segments)
+    if (segments < 2 || !heads_fit(segments))
         return;
     i = pick(segments);
     j = pick(segments);
-    from = now.book + 8 + 10 * i + 8;
-    to = now.book + 8 + 10 * j + 8;
-    room = (unsigned)number(from, 2);
-    n = one_in(2) ? 26 : pick(room + 1);
+    from = now.book + head_place(i) + COMBINATOR_HEAD_BODY_LENGTH;
+    to = now.book + head_place(j) + COMBINATOR_HEAD_BODY_LENGTH;
+    room = number16(from);
+    n = one_in(2) ? COMBINATOR_ENTRY_SIZE : pick(room + 1);
     if (n > room)
         n = room;
-    put(from, 2, room - n);
-    put(to, 2, number(to, 2) + n);
+    put16(from, room - n);
+    put16(to, number16(to) + n);
 }
 
 static void random_bytes(void)
@@ -465,13 +470,14 @@ static void random_bytes(void)
     now.book_len = one_in(20) ? pick(MAX_BOOK) : pick(300);
     for (i = 0; i < now.book_len; i++)
         now.book[i] = one_in(3) ? 0 : (uint8_t)draw();
-    /* Often sizes that fit. */
-    if (now.book_len >= 8 && !one_in(4)) {
-        unsigned count = pick(6);
-        if (now.book_len >= 8 + 10 * count) {
-            put(now.book, 2, pick(count + 1));
-            put(now.book + 2, 2, count - number(now.book, 2));
-            put(now.book + 4, 4, now.book_len - 8 - 10 * count);
+    /* Often counts that fit. */
+    if (now.book_len >= COMBINATOR_COUNTS_SIZE && !one_in(4)) {
+        unsigned count = pick(6), cores;
+        if (heads_fit(count)) {
+            cores = pick(count + 1);
+            put16(now.book + COMBINATOR_COUNTS_CORES, cores);
+            put16(now.book + COMBINATOR_COUNTS_NON_CORES, count - cores);
+            put32(now.book + COMBINATOR_COUNTS_BODIES, (uint32_t)(now.book_len - head_place(count)));
         }
     }
     now.src = AS_SOURCE;
@@ -486,57 +492,57 @@ static size_t some_out_len(size_t count)
     case 0:
         return pick(70);
     case 1:
-        return 16 * count;
+        return SLOTS(count);
     case 2:
-        return 16 * count + pick(33);
+        return SLOTS(count) + pick(SLOTS(2) + 1);
     case 3:
-        return 16 * count - (count ? 1 + pick(16) : 0);
+        return SLOTS(count) - (count ? 1 + pick(SLOTS(1)) : 0);
     case 4:
-        return one_in(4) ? 65536 - 17 + pick(35) : pick(MAX_OUT);
+        return one_in(4) ? COMBINATOR_LIST_SIZE - SLOTS(1) - 1 + pick(SLOTS(2) + 3) : pick(MAX_OUT);
     default:
-        return 16 * count + pick(1000);
+        return SLOTS(count) + pick(1000);
     }
 }
 
-static uint8_t listed[16 * 64];
+static uint8_t listed[SLOTS(LISTED)];
 
 /* Lists the book, assembles its solutions, and asks for records that are none. */
 static void use_book(unsigned records)
 {
     uint32_t answer;
     unsigned n, i;
-    size_t room = one_in(8) ? 65536 : 16 * 64;
+    size_t room = one_in(8) ? COMBINATOR_LIST_SIZE : SLOTS(LISTED);
     const uint8_t *out;
     now.record_len = 0;
     out = check(0, room, &answer);
-    n = COMBINATOR_IS_REFUSAL(answer) ? 0 : answer < 64 ? answer : 64;
-    memcpy(listed, out, 16 * n);
+    n = COMBINATOR_IS_REFUSAL(answer) ? 0 : answer < LISTED ? answer : LISTED;
+    memcpy(listed, out, SLOTS(n));
     check_list(some_out_len(COMBINATOR_IS_REFUSAL(answer) ? 0 : answer));
     for (i = 0; i < n && i < records; i++)
-        check_record(listed + 16 * i, 16, one_in(4) ? COMBINATOR_PATH_SIZE + pick(40) : COMBINATOR_PATH_SIZE);
+        check_record(listed + SLOTS(i), SLOTS(1), one_in(4) ? COMBINATOR_PATH_SIZE + pick(40) : COMBINATOR_PATH_SIZE);
     /* Too small an output, another length of record, another record. */
-    check_record(listed, n ? 16 : pick(17), one_in(2) ? COMBINATOR_PATH_SIZE - 1 : pick(COMBINATOR_PATH_SIZE));
-    check_record(listed, pick(40), one_in(2) ? COMBINATOR_PATH_SIZE : COMBINATOR_PATH_SIZE - pick(3));
+    check_record(listed, n ? SLOTS(1) : pick(SLOTS(1) + 1), one_in(2) ? COMBINATOR_PATH_SIZE - 1 : pick(COMBINATOR_PATH_SIZE));
+    check_record(listed, pick(SLOTS(2) + 8), one_in(2) ? COMBINATOR_PATH_SIZE : COMBINATOR_PATH_SIZE - pick(3));
     for (i = 0; i < 4; i++) {
-        uint8_t r[16];
+        uint8_t r[SLOTS(1)];
         unsigned j;
         if (n)
-            memcpy(r, listed + 16 * pick(n), 16);
+            memcpy(r, listed + SLOTS(pick(n)), sizeof r);
         else
-            for (j = 0; j < 16; j++)
+            for (j = 0; j < sizeof r; j++)
                 r[j] = (uint8_t)(one_in(2) ? 0 : pick(4));
         for (j = 1 + pick(2); j > 0; j--)
-            r[pick(16)] = (uint8_t)(one_in(4) ? draw() : pick(5));
+            r[pick(sizeof r)] = (uint8_t)(one_in(4) ? draw() : pick(5));
         if (n && one_in(4))
-            memcpy(r + 4 + 4 * pick(3), listed + 16 * pick(n) + 4 + 4 * pick(3), 4);
-        check_record(r, 16, COMBINATOR_PATH_SIZE);
+            memcpy(r + edge_place(pick(COMBINATOR_MAX_EDGES)), listed + SLOTS(pick(n)) + edge_place(pick(COMBINATOR_MAX_EDGES)), COMBINATOR_EDGE_SIZE);
+        check_record(r, sizeof r, COMBINATOR_PATH_SIZE);
     }
     /* The other way round the same records are strangers, as a rule. */
     if (n && one_in(4)) {
         uint64_t s = now.src;
         now.src = now.dst;
         now.dst = s;
-        check_record(listed, 16, COMBINATOR_PATH_SIZE);
+        check_record(listed, SLOTS(1), COMBINATOR_PATH_SIZE);
     }
 }
 
@@ -600,16 +606,19 @@ static void turn(uint64_t seed, uint64_t number_of_turn)
 
 static void sweep_lengths(void)
 {
+    /* Some bytes past the most heads; the last number of a field of two bytes. */
+    const size_t small = head_place(COMBINATOR_MAX_SEGMENTS) + 52, large = UINT16_MAX;
     size_t n, whole;
     unsigned i, c;
     now.kind = "lengths of a book";
-    /* All zero, and all ones: every length to 700, and near the limit. */
+    /* All zero, and all ones: every small length, and near the limits. */
     for (i = 0; i < 2; i++) {
         memset(now.book, i ? 0xff : 0, sizeof now.book);
-        for (n = 0; n < sizeof now.book; n = n == 700 ? COMBINATOR_MAX_BOOK - 8 : n == COMBINATOR_MAX_BOOK + 8 ? 65530 : n == 65545 ? sizeof now.book - 1 : n + 1) {
+        for (n = 0; n < sizeof now.book;
+             n = n == small ? COMBINATOR_MAX_BOOK - 8 : n == COMBINATOR_MAX_BOOK + 8 ? large - 5 : n == large + 10 ? sizeof now.book - 1 : n + 1) {
             now.book_len = n;
-            check_list(48);
-            check_record(now.book, 16, COMBINATOR_PATH_SIZE);
+            check_list(SLOTS(3));
+            check_record(now.book, SLOTS(1), COMBINATOR_PATH_SIZE);
         }
     }
     /* The worked book at every length, and longer. */
@@ -617,28 +626,28 @@ static void sweep_lengths(void)
     memset(now.book + whole, 0, 40);
     for (n = 0; n < whole + 40; n++) {
         now.book_len = n;
-        check_list(64);
+        check_list(SLOTS(4));
     }
     now.kind = "counts of segments";
     memset(now.book, 0, sizeof now.book);
-    for (c = 60; c < 70; c++)
+    for (c = COMBINATOR_MAX_SEGMENTS - 4; c < COMBINATOR_MAX_SEGMENTS + 6; c++)
         for (i = 0; i <= c; i += c - i > 3 && i > 3 ? c / 3 : 1) {
-            put(now.book, 2, i);
-            put(now.book + 2, 2, c - i);
-            for (n = 8 + 10 * c - 2; n <= 8 + 10 * c + 2; n++) {
+            put16(now.book + COMBINATOR_COUNTS_CORES, i);
+            put16(now.book + COMBINATOR_COUNTS_NON_CORES, c - i);
+            for (n = head_place(c) - 2; n <= head_place(c) + 2; n++) {
                 now.book_len = n;
-                check_list(32);
+                check_list(SLOTS(2));
             }
         }
     for (i = 0; i < 4; i++) {
-        put(now.book, 2, i & 1 ? 65535 : 0);
-        put(now.book + 2, 2, i & 2 ? 65535 : 0);
+        put16(now.book + COMBINATOR_COUNTS_CORES, i & 1 ? UINT16_MAX : 0);
+        put16(now.book + COMBINATOR_COUNTS_NON_CORES, i & 2 ? UINT16_MAX : 0);
         for (c = 0; c < 3; c++) {
-            put(now.book + 4, 4, c == 0 ? 0 : c == 1 ? UINT32_MAX : UINT32_MAX - 61440);
-            for (now.book_len = 6; now.book_len < 30; now.book_len++)
-                check_list(32);
+            put32(now.book + COMBINATOR_COUNTS_BODIES, c == 0 ? 0 : c == 1 ? UINT32_MAX : UINT32_MAX - COMBINATOR_MAX_BOOK);
+            for (now.book_len = COMBINATOR_COUNTS_SIZE - 2; now.book_len < head_place(2) + 2; now.book_len++)
+                check_list(SLOTS(2));
             now.book_len = COMBINATOR_MAX_BOOK;
-            check_list(32);
+            check_list(SLOTS(2));
         }
     }
 }
@@ -646,12 +655,14 @@ static void sweep_lengths(void)
 /* A body of `entries` entries, the last with `peers` peers said and `there` present. */
 static void sweep_bodies(void)
 {
+    const unsigned many = COMBINATOR_MAX_PEERS + 2; /* stands for the largest number when said */
     unsigned entries, said, there, off, k;
     now.kind = "entries and peers";
-    for (entries = 0; entries <= 18; entries++)
-        for (said = 0; said <= 6; said++)
-            for (there = 0; there <= 6; there++)
+    for (entries = 0; entries <= COMBINATOR_MAX_ENTRIES + 2; entries++)
+        for (said = 0; said <= many; said++)
+            for (there = 0; there <= many; there++)
                 for (off = 0; off < 5; off++) {
+                    uint8_t *count, *length;
                     if (entries == 0 && (said || there))
                         continue;
                     build_start(&b);
@@ -661,36 +672,43 @@ static void sweep_bodies(void)
                     for (k = 0; k < there; k++)
                         build_peer(&b, AS_DESTINATION, 1, 1, 1, k);
                     if (entries)
-                        b.entry[25] = (uint8_t)(said == 6 ? 255 : said);
+                        b.entry[COMBINATOR_ENTRY_PEER_COUNT] = (uint8_t)(said == many ? UINT8_MAX : said);
                     /* The length in the head, and the count, one off or not. */
-                    put(b.heads + 8, 2, number(b.heads + 8, 2) + (off == 1) - (uint64_t)(off == 2));
-                    put(b.heads + 6, 2, number(b.heads + 6, 2) + (off == 3) - (uint64_t)(off == 4));
+                    length = b.head + COMBINATOR_HEAD_BODY_LENGTH;
+                    count = b.head + COMBINATOR_HEAD_ENTRY_COUNT;
+                    put16(length, number16(length) + (off == 1) - (off == 2));
+                    put16(count, number16(count) + (off == 3) - (off == 4));
                     now.book_len = build_book(&b, now.book);
-                    check_list(160);
-                    check_record(now.book, 16, COMBINATOR_PATH_SIZE);
+                    check_list(SLOTS(10));
+                    check_record(now.book, SLOTS(1), COMBINATOR_PATH_SIZE);
                 }
     now.kind = "a book at the limit";
     for (k = 0; k < 60; k++) {
-        unsigned left;
+        const size_t kept = 700; /* for the last segment */
+        size_t left;
         build_start(&b);
-        for (entries = 0; 10 * (entries + 1) + b.length + 16 * (26 + 4 * 23) <= 61440 - 8 - 700; entries++) {
+        for (entries = 0; head_place(entries + 1) + b.length + FULL_BODY + kept <= COMBINATOR_MAX_BOOK; entries++) {
             build_segment(&b, 0, 1000000, entries);
-            for (said = 0; said < 16; said++) {
-                build_entry(&b, said == 15 ? entries % 2 ? AS_SOURCE : AS_DESTINATION : AS_DESTINATION + 16 + said, 1, 2, said);
-                for (there = 0; there < 4; there++)
-                    build_peer(&b, AS_DESTINATION + 16 + said, there, there, 3, there);
+            for (said = 0; said < COMBINATOR_MAX_ENTRIES; said++) {
+                uint64_t leaf = entries % 2 ? AS_SOURCE : AS_DESTINATION, as = AS_DESTINATION + 16 + said;
+                build_entry(&b, said + 1 == COMBINATOR_MAX_ENTRIES ? leaf : as, 1, 2, said);
+                for (there = 0; there < COMBINATOR_MAX_PEERS; there++)
+                    build_peer(&b, as, there, there, 3, there);
             }
         }
         /* Filled up with entries of a last segment, to lengths on both sides of the limit. */
-        left = 61440 - 8 - 10 * (entries + 1) - (unsigned)b.length;
+        left = COMBINATOR_MAX_BOOK - head_place(entries + 1) - b.length;
         build_segment(&b, 0, 1000000, entries);
-        for (said = 0; said < left / 26 + 1 && said < 16 + k % 2; said++) {
+        for (said = 0; said < left / COMBINATOR_ENTRY_SIZE + 1 && said < COMBINATOR_MAX_ENTRIES + k % 2; said++) {
             build_entry(&b, said ? AS_SOURCE : AS_DESTINATION, 1, 2, said);
-            for (there = 0; there < 4 && b.length + 10 * (entries + 1) + 8 + 23 < 61440 - 26 + k; there++)
+            for (there = 0; there < COMBINATOR_MAX_PEERS; there++) {
+                if (head_place(entries + 1) + b.length + COMBINATOR_PEER_SIZE + COMBINATOR_ENTRY_SIZE >= COMBINATOR_MAX_BOOK + k)
+                    break;
                 build_peer(&b, AS_DESTINATION, there, there, 3, there);
+            }
         }
         now.book_len = build_book(&b, now.book);
-        check_list(65536);
+        check_list(COMBINATOR_LIST_SIZE);
     }
 }
 
@@ -702,44 +720,44 @@ static void sweep_outputs(void)
     now.kind = "lengths of an output";
     for (i = 0; i < sizeof sides / sizeof *sides; i++) {
         now.book_len = build_chains(now.book, sides[i][0], sides[i][1], sides[i][2], 0);
-        for (n = 0; n < 1200; n++)
+        for (n = 0; n < SLOTS(4 * 4 * 4 + 11); n++)
             check_list(n);
     }
-    /* 4,096 chains and 4,352. */
-    for (i = 16; i <= 17; i++) {
-        now.book_len = build_chains(now.book, i, 16, 16, 1);
-        for (n = 65536 - 17; n <= 65536 + 32; n++)
+    /* As many chains as slots, and more. */
+    for (i = 0; i < 2; i++) {
+        now.book_len = build_slots(now.book, i, 1);
+        for (n = COMBINATOR_LIST_SIZE - SLOTS(1) - 1; n <= COMBINATOR_LIST_SIZE + SLOTS(2); n++)
             check_list(n);
         check_list(0);
-        check_list(15);
-        check_list(65536 + 4096 + 16);
+        check_list(SLOTS(1) - 1);
+        check_list(COMBINATOR_LIST_SIZE + SLOTS(257));
         check_list(MAX_OUT);
     }
     /* Every AS and every link shared: the most work known of a book. */
-    for (i = 1; i <= 16; i++) {
-        now.book_len = build_worst(now.book, i, 16, 4);
-        check_list(65536);
+    for (i = 1; i <= FULL_HALF; i++) {
+        now.book_len = build_worst(now.book, i, COMBINATOR_MAX_ENTRIES, COMBINATOR_MAX_PEERS);
+        check_list(COMBINATOR_LIST_SIZE);
     }
-    now.book_len = build_chains(now.book, 17, 16, 16, 1);
-    /* Assembly is not Full, and a record is found among 4,352. */
+    now.book_len = build_slots(now.book, 1, 1);
+    /* Assembly is not Full, and a record is found among more than there are slots. */
     {
         size_t count;
         const uint8_t *records = model_records(now.src, now.dst, now.book, now.book_len, &count);
         for (n = 0; n < count; n += 311) {
-            uint8_t r[16];
-            memcpy(r, records + 16 * n, 16);
-            check_record(r, 16, COMBINATOR_PATH_SIZE);
+            uint8_t r[SLOTS(1)];
+            memcpy(r, records + SLOTS(n), sizeof r);
+            check_record(r, sizeof r, COMBINATOR_PATH_SIZE);
         }
     }
     now.book_len = build_worked(now.book);
     now.record_len = 0;
-    memcpy(listed, check(0, 64, NULL), 16);
+    memcpy(listed, check(0, SLOTS(4), NULL), SLOTS(1));
     for (n = 0; n < 80; n++)
-        check_record(listed, 16, n);
+        check_record(listed, SLOTS(1), n);
     for (n = COMBINATOR_PATH_SIZE - 20; n < COMBINATOR_PATH_SIZE + 60; n++)
-        check_record(listed, 16, n);
-    check_record(listed, 16, 65536);
-    check_record(listed, 16, MAX_OUT);
+        check_record(listed, SLOTS(1), n);
+    check_record(listed, SLOTS(1), COMBINATOR_LIST_SIZE);
+    check_record(listed, SLOTS(1), MAX_OUT);
 }
 
 /* Every byte of every record to every value, and every length of a record. */
@@ -759,21 +777,21 @@ static void sweep_records(void)
         else
             now.book_len = build_few(now.book, 3, 4, 1);
         now.record_len = 0;
-        out = check(0, 16 * 64, &count);
+        out = check(0, SLOTS(LISTED), &count);
         if (COMBINATOR_IS_REFUSAL(count))
             fail("the sweep's book %u is refused", book);
-        n = count < 64 ? count : 64;
-        memcpy(listed, out, 16 * n);
+        n = count < LISTED ? count : LISTED;
+        memcpy(listed, out, SLOTS(n));
         for (i = 0; i < n; i += n > 8 ? n / 8 : 1) {
-            uint8_t r[40];
-            for (at = 0; at < 16; at++)
-                for (value = 0; value < 256; value++) {
-                    memcpy(r, listed + 16 * i, 16);
+            uint8_t r[SLOTS(2) + 8];
+            for (at = 0; at < SLOTS(1); at++)
+                for (value = 0; value <= UINT8_MAX; value++) {
+                    memcpy(r, listed + SLOTS(i), SLOTS(1));
                     r[at] = (uint8_t)value;
-                    check_record(r, 16, COMBINATOR_PATH_SIZE);
+                    check_record(r, SLOTS(1), COMBINATOR_PATH_SIZE);
                 }
             memset(r, 0, sizeof r);
-            memcpy(r, listed + 16 * i, 16);
+            memcpy(r, listed + SLOTS(i), SLOTS(1));
             for (at = 0; at <= sizeof r; at++)
                 check_record(r, at, COMBINATOR_PATH_SIZE);
         }
@@ -801,7 +819,8 @@ static void report(const char *call, const struct longest *l)
 int fuzz_mode(int args, char **arg)
 {
     uint64_t seed, limit, first = 1, turns = 0, start = now_ns();
-    int seconds, i;
+    unsigned i;
+    int seconds;
     if (args > 0 && !strcmp(arg[args - 1], "--undefined")) {
         undefined = 1;
         args--;
@@ -814,7 +833,7 @@ int fuzz_mode(int args, char **arg)
     signal(SIGSEGV, fault);
     signal(SIGBUS, fault);
     make_area(&book_area, MAX_BOOK);
-    make_area(&record_area, 64);
+    make_area(&record_area, MAX_RECORD);
     make_area(&out_area, MAX_OUT);
     if (args == 3)
         first = strtoull(arg[2], NULL, 10);
@@ -831,8 +850,8 @@ int fuzz_mode(int args, char **arg)
     report("listing", &longest_list);
     report("assembly", &longest_assemble);
     printf("assembly gave %" PRIu64 " paths, %" PRIu64 " loop, %" PRIu64 " bare; refusals", paths, loops, bares);
-    for (i = 1; i <= 10; i++)
-        printf(" %d: %" PRIu64, i, refused[i]);
+    for (i = 1; i <= COMBINATOR_LAST_REFUSAL; i++)
+        printf(" %u: %" PRIu64, i, refused[i]);
     printf("\n");
     return 0;
 }

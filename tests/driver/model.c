@@ -26,7 +26,7 @@ static void block(uint32_t h[8], const uint8_t *p)
     uint32_t w[64], s[8];
     int t;
     for (t = 0; t < 16; t++)
-        w[t] = (uint32_t)number(p + 4 * t, 4);
+        w[t] = number32(p + 4 * t);
     for (; t < 64; t++) {
         uint32_t a = w[t - 15], b = w[t - 2];
         w[t] = w[t - 16] + (rotate(a, 7) ^ rotate(a, 18) ^ a >> 3) + w[t - 7] + (rotate(b, 17) ^ rotate(b, 19) ^ b >> 10);
@@ -44,7 +44,7 @@ static void block(uint32_t h[8], const uint8_t *p)
         h[t] += s[t];
 }
 
-void model_sha256(const uint8_t *data, size_t len, uint8_t digest[32])
+static void sha256(const uint8_t *data, size_t len, uint8_t digest[DIGEST_SIZE])
 {
     uint32_t h[8] = {0x6a09e667, 0xbb67ae85, 0x3c6ef372, 0xa54ff53a, 0x510e527f, 0x9b05688c, 0x1f83d9ab, 0x5be0cd19};
     uint8_t last[128] = {0};
@@ -53,61 +53,81 @@ void model_sha256(const uint8_t *data, size_t len, uint8_t digest[32])
         block(h, data + i);
     memcpy(last, data + whole, rest);
     last[rest] = 0x80;
-    put(last + end - 8, 8, (uint64_t)len * 8);
+    put64(last + end - 8, (uint64_t)len * 8);
     for (i = 0; i < end; i += 64)
         block(h, last + i);
     for (i = 0; i < 8; i++)
-        put(digest + 4 * i, 4, h[i]);
+        put32(digest + 4 * i, h[i]);
 }
 
-/* ---- the book */
+/* ---- the book: docs/SPECIFICATION.md 9.3 */
 
-unsigned model_verdict(const uint8_t *book, size_t len)
+static unsigned segments_of(const uint8_t *book)
 {
-    unsigned count, p, i;
+    return number16(book + COMBINATOR_COUNTS_CORES) + number16(book + COMBINATOR_COUNTS_NON_CORES);
+}
+
+static const uint8_t *head_of(const uint8_t *book, unsigned position)
+{
+    return book + COMBINATOR_COUNTS_SIZE + COMBINATOR_HEAD_SIZE * position;
+}
+
+/* The refusal of a body, or 0. */
+static uint32_t body_verdict(const uint8_t *body, size_t left, unsigned entries)
+{
+    for (; entries > 0; entries--) {
+        unsigned peers;
+        if (left < COMBINATOR_ENTRY_SIZE)
+            return COMBINATOR_MISFIT;
+        peers = body[COMBINATOR_ENTRY_PEER_COUNT];
+        if (peers > COMBINATOR_MAX_PEERS)
+            return COMBINATOR_PEERS;
+        body += COMBINATOR_ENTRY_SIZE;
+        left -= COMBINATOR_ENTRY_SIZE;
+        if (left < COMBINATOR_PEER_SIZE * peers)
+            return COMBINATOR_MISFIT;
+        body += COMBINATOR_PEER_SIZE * peers;
+        left -= COMBINATOR_PEER_SIZE * peers;
+    }
+    return left ? COMBINATOR_MISFIT : 0;
+}
+
+/* The refusal of a book, or 0. */
+static uint32_t verdict(const uint8_t *book, size_t len)
+{
+    unsigned count, p;
     uint64_t total, sum = 0;
-    size_t at;
-    if (len > 61440)
-        return 3;
-    if (len < 8)
-        return 1;
-    count = (unsigned)(number(book, 2) + number(book + 2, 2));
-    total = number(book + 4, 4);
-    if (count > 64)
-        return 4;
-    if (len < 8 + 10 * count + total)
-        return 1;
-    if (len > 8 + 10 * count + total)
-        return 2;
+    const uint8_t *body;
+    if (len > COMBINATOR_MAX_BOOK)
+        return COMBINATOR_OVERSIZE;
+    if (len < COMBINATOR_COUNTS_SIZE)
+        return COMBINATOR_CUT;
+    count = segments_of(book);
+    total = number32(book + COMBINATOR_COUNTS_BODIES);
+    if (count > COMBINATOR_MAX_SEGMENTS)
+        return COMBINATOR_CROWDED;
+    if (len < COMBINATOR_COUNTS_SIZE + COMBINATOR_HEAD_SIZE * count + total)
+        return COMBINATOR_CUT;
+    if (len > COMBINATOR_COUNTS_SIZE + COMBINATOR_HEAD_SIZE * count + total)
+        return COMBINATOR_SURPLUS;
     for (p = 0; p < count; p++) {
-        if (number(book + 8 + 10 * p + 6, 2) > 16)
-            return 5;
-        sum += number(book + 8 + 10 * p + 8, 2);
+        if (number16(head_of(book, p) + COMBINATOR_HEAD_ENTRY_COUNT) > COMBINATOR_MAX_ENTRIES)
+            return COMBINATOR_LONG;
+        sum += number16(head_of(book, p) + COMBINATOR_HEAD_BODY_LENGTH);
     }
     if (sum != total)
-        return 7;
-    at = 8 + 10 * count;
-    for (p = 0; p < count; p++) {
-        size_t end = at + number(book + 8 + 10 * p + 8, 2);
-        for (i = 0; i < number(book + 8 + 10 * p + 6, 2); i++) {
-            unsigned peers;
-            if (end - at < 26)
-                return 7;
-            peers = book[at + 25];
-            if (peers > 4)
-                return 6;
-            at += 26;
-            if (end - at < 23 * peers)
-                return 7;
-            at += 23 * peers;
-        }
-        if (at != end)
-            return 7;
+        return COMBINATOR_MISFIT;
+    for (p = 0, body = head_of(book, count); p < count; p++) {
+        size_t length = number16(head_of(book, p) + COMBINATOR_HEAD_BODY_LENGTH);
+        uint32_t refusal = body_verdict(body, length, number16(head_of(book, p) + COMBINATOR_HEAD_ENTRY_COUNT));
+        if (refusal)
+            return refusal;
+        body += length;
     }
     return 0;
 }
 
-/* ---- stored edges */
+/* ---- stored edges: docs/SPECIFICATION.md 3 */
 
 /* An AS, or a peering end. */
 struct vertex {
@@ -126,17 +146,17 @@ struct edge {
 
 struct chain {
     unsigned edges, cost;
-    const struct edge *edge[3];
+    const struct edge *edge[COMBINATOR_MAX_EDGES];
 };
 
 /* What was worked out of one source, destination and book. */
 static struct {
     int known;
     uint64_t src, dst;
-    uint8_t book[61440];
+    uint8_t book[COMBINATOR_MAX_BOOK];
     size_t len;
     unsigned count;
-    struct segment segment[64];
+    struct segment segment[COMBINATOR_MAX_SEGMENTS];
     struct edge *edge; /* by start */
     size_t edges, edge_room;
     struct chain *chain;
@@ -235,7 +255,7 @@ static int by_start(const void *a, const void *b)
     return compare_vertices(&((const struct edge *)a)->start, &((const struct edge *)b)->start);
 }
 
-/* ---- chains */
+/* ---- chains: docs/SPECIFICATION.md 4 */
 
 /* The first edge that leaves v, if any does. */
 static size_t first_from(const struct vertex *v)
@@ -284,13 +304,13 @@ static void extend(const struct chain *c, const struct vertex *at)
             if (m.chains == m.chain_room)
                 m.chain = grow(m.chain, &m.chain_room, sizeof *m.chain);
             m.chain[m.chains++] = longer;
-        } else if (longer.edges < 3) {
+        } else if (longer.edges < COMBINATOR_MAX_EDGES) {
             extend(&longer, &m.edge[i].end);
         }
     }
 }
 
-/* ---- order */
+/* ---- order: docs/SPECIFICATION.md 5 */
 
 static int in_order(const void *x, const void *y)
 {
@@ -305,14 +325,14 @@ static int in_order(const void *x, const void *y)
         if (!c)
             c = compare(f->shortcut, e->shortcut);
         if (!c)
-            c = memcmp(m.segment[e->position].fingerprint, m.segment[f->position].fingerprint, 32);
+            c = memcmp(m.segment[e->position].fingerprint, m.segment[f->position].fingerprint, DIGEST_SIZE);
     }
     for (i = 0; !c && i < a->edges; i++)
         c = compare(a->edge[i]->position, b->edge[i]->position);
     return c;
 }
 
-/* ---- records */
+/* ---- records: docs/SPECIFICATION.md 8.1 */
 
 static int along(const struct edge *e)
 {
@@ -323,64 +343,88 @@ static int along(const struct edge *e)
 
 static void put_record(uint8_t *r, const struct chain *c)
 {
+    uint8_t *edge = r + COMBINATOR_RECORD_HEAD_SIZE;
     unsigned i;
-    memset(r, 0, 16);
-    put(r, 2, c->cost);
-    r[2] = (uint8_t)c->edges;
-    for (i = 0; i < c->edges; i++) {
-        r[4 + 4 * i] = (uint8_t)c->edge[i]->position;
-        r[5 + 4 * i] = (uint8_t)c->edge[i]->shortcut;
-        r[6 + 4 * i] = (uint8_t)(c->edge[i]->peer + 1);
-        r[7 + 4 * i] = (uint8_t)along(c->edge[i]);
+    memset(r, 0, COMBINATOR_RECORD_SIZE);
+    put16(r + COMBINATOR_RECORD_COST, c->cost);
+    r[COMBINATOR_RECORD_EDGE_COUNT] = (uint8_t)c->edges;
+    for (i = 0; i < c->edges; i++, edge += COMBINATOR_EDGE_SIZE) {
+        edge[COMBINATOR_EDGE_POSITION] = (uint8_t)c->edge[i]->position;
+        edge[COMBINATOR_EDGE_SHORTCUT] = (uint8_t)c->edge[i]->shortcut;
+        edge[COMBINATOR_EDGE_PEER] = (uint8_t)(c->edge[i]->peer + 1);
+        edge[COMBINATOR_EDGE_DIRECTION] = along(c->edge[i]) ? COMBINATOR_CONSTRUCTION : 0;
     }
 }
 
-/* ---- working out a book once */
+/* ---- working out a book once: docs/SPECIFICATION.md 2 */
 
-static struct hop hop_at(const uint8_t *units, const uint8_t *interfaces, const uint8_t *mac)
+static struct hop hop_at(const uint8_t *units, const uint8_t *ingress, const uint8_t *egress, const uint8_t *mac)
 {
     struct hop h;
     h.units = *units;
-    h.ingress = (unsigned)number(interfaces, 2);
-    h.egress = (unsigned)number(interfaces + 2, 2);
+    h.ingress = number16(ingress);
+    h.egress = number16(egress);
     h.mac = mac;
     return h;
 }
 
+static const uint8_t *decode_peer(struct peer *p, const uint8_t *at)
+{
+    p->as = number64(at + COMBINATOR_PEER_AS);
+    p->interface = number16(at + COMBINATOR_PEER_INTERFACE);
+    p->mtu = number16(at + COMBINATOR_PEER_MTU);
+    p->hop = hop_at(at + COMBINATOR_PEER_UNITS, at + COMBINATOR_PEER_INGRESS, at + COMBINATOR_PEER_EGRESS, at + COMBINATOR_PEER_MAC);
+    return at + COMBINATOR_PEER_SIZE;
+}
+
+static const uint8_t *decode_entry(struct entry *e, const uint8_t *at)
+{
+    unsigned i;
+    e->as = number64(at + COMBINATOR_ENTRY_AS);
+    e->mtu = number32(at + COMBINATOR_ENTRY_MTU);
+    e->ingress_mtu = number16(at + COMBINATOR_ENTRY_INGRESS_MTU);
+    e->hop = hop_at(at + COMBINATOR_ENTRY_UNITS, at + COMBINATOR_ENTRY_INGRESS, at + COMBINATOR_ENTRY_EGRESS, at + COMBINATOR_ENTRY_MAC);
+    e->peers = at[COMBINATOR_ENTRY_PEER_COUNT];
+    at += COMBINATOR_ENTRY_SIZE;
+    for (i = 0; i < e->peers; i++)
+        at = decode_peer(&e->peer[i], at);
+    return at;
+}
+
+/* Of each entry AS, ingress and egress. */
+static void find_fingerprint(struct segment *s)
+{
+    uint8_t input[COMBINATOR_MAX_ENTRIES * (COMBINATOR_AS_SIZE + 2 * COMBINATOR_INTERFACE_ID_SIZE)], *at = input;
+    unsigned i;
+    for (i = 0; i < s->entries; i++) {
+        put64(at, s->entry[i].as);
+        at += COMBINATOR_AS_SIZE;
+        put16(at, s->entry[i].hop.ingress);
+        at += COMBINATOR_INTERFACE_ID_SIZE;
+        put16(at, s->entry[i].hop.egress);
+        at += COMBINATOR_INTERFACE_ID_SIZE;
+    }
+    sha256(input, (size_t)(at - input), s->fingerprint);
+}
+
 static void decode(void)
 {
-    unsigned cores = (unsigned)number(m.book, 2), p, i, j;
+    unsigned cores = number16(m.book + COMBINATOR_COUNTS_CORES), p, i;
     const uint8_t *at;
-    m.count = cores + (unsigned)number(m.book + 2, 2);
-    at = m.book + 8 + 10 * m.count;
+    m.count = segments_of(m.book);
+    at = head_of(m.book, m.count);
     for (p = 0; p < m.count; p++) {
         struct segment *s = &m.segment[p];
-        const uint8_t *head = m.book + 8 + 10 * p;
-        uint8_t input[16 * 12];
+        const uint8_t *head = head_of(m.book, p);
         s->core = p < cores;
-        s->timestamp = (uint32_t)number(head, 4);
-        s->id = (unsigned)number(head + 4, 2);
-        s->entries = (unsigned)number(head + 6, 2);
-        s->length = (size_t)number(head + 8, 2);
+        s->timestamp = number32(head + COMBINATOR_HEAD_TIMESTAMP);
+        s->id = number16(head + COMBINATOR_HEAD_ID);
+        s->entries = number16(head + COMBINATOR_HEAD_ENTRY_COUNT);
+        s->length = number16(head + COMBINATOR_HEAD_BODY_LENGTH);
         s->body = at;
-        for (i = 0; i < s->entries; i++) {
-            struct entry *e = &s->entry[i];
-            e->as = number(at, 8);
-            e->mtu = (uint32_t)number(at + 8, 4);
-            e->ingress_mtu = (unsigned)number(at + 12, 2);
-            e->hop = hop_at(at + 18, at + 14, at + 19);
-            e->peers = at[25];
-            memcpy(input + 12 * i, at, 8);
-            memcpy(input + 12 * i + 8, at + 14, 4);
-            at += 26;
-            for (j = 0; j < e->peers; j++, at += 23) {
-                e->peer[j].as = number(at, 8);
-                e->peer[j].interface = (unsigned)number(at + 8, 2);
-                e->peer[j].mtu = (unsigned)number(at + 10, 2);
-                e->peer[j].hop = hop_at(at + 12, at + 13, at + 17);
-            }
-        }
-        model_sha256(input, 12 * s->entries, s->fingerprint);
+        for (i = 0; i < s->entries; i++)
+            at = decode_entry(&s->entry[i], at);
+        find_fingerprint(s);
     }
 }
 
@@ -402,7 +446,7 @@ static int first_of_equals(unsigned p)
 /* The book is accepted. */
 static void work_out(uint64_t src, uint64_t dst, const uint8_t *book, size_t len)
 {
-    struct chain none = {0, 0, {NULL, NULL, NULL}};
+    struct chain none;
     struct vertex source = as_vertex(src);
     unsigned p;
     size_t i;
@@ -424,13 +468,14 @@ static void work_out(uint64_t src, uint64_t dst, const uint8_t *book, size_t len
             qsort(m.edge, m.edges, sizeof *m.edge, by_start);
     }
     m.chains = 0;
+    memset(&none, 0, sizeof none);
     if (src != dst)
         extend(&none, &source);
     if (m.chains)
         qsort(m.chain, m.chains, sizeof *m.chain, in_order);
-    m.record = resize(m.record, 16 * m.chains + 1);
+    m.record = resize(m.record, COMBINATOR_RECORD_SIZE * m.chains);
     for (i = 0; i < m.chains; i++)
-        put_record(m.record + 16 * i, &m.chain[i]);
+        put_record(m.record + COMBINATOR_RECORD_SIZE * i, &m.chain[i]);
 }
 
 const struct segment *model_segments(const uint8_t *book, size_t len, unsigned *count)
@@ -447,23 +492,23 @@ const uint8_t *model_records(uint64_t src, uint64_t dst, const uint8_t *book, si
     return m.record;
 }
 
-/* ---- listing */
+/* ---- listing: docs/SPECIFICATION.md 9.5 */
 
 uint32_t model_list(uint64_t src, uint64_t dst, const uint8_t *book, size_t book_len, uint8_t *out, size_t out_len)
 {
-    size_t slots = out_len / 16 < 4096 ? out_len / 16 : 4096;
-    unsigned refusal = model_verdict(book, book_len);
+    size_t slots = out_len / COMBINATOR_RECORD_SIZE < COMBINATOR_MAX_SOLUTIONS ? out_len / COMBINATOR_RECORD_SIZE : COMBINATOR_MAX_SOLUTIONS;
+    uint32_t refusal = verdict(book, book_len);
     memset(out, 0, out_len);
     if (refusal)
-        return 65536 + refusal;
+        return refusal;
     work_out(src, dst, book, book_len);
     if (m.chains > slots)
-        return 65536 + 8;
-    memcpy(out, m.record, 16 * m.chains);
+        return COMBINATOR_FULL;
+    memcpy(out, m.record, COMBINATOR_RECORD_SIZE * m.chains);
     return (uint32_t)m.chains;
 }
 
-/* ---- assembly */
+/* ---- assembly: docs/SPECIFICATION.md 6 and 9.6 */
 
 struct interface {
     uint64_t as;
@@ -474,9 +519,9 @@ struct path {
     unsigned infos, hops, interfaces;
     unsigned mtu;
     uint64_t expiry;
-    uint8_t info[3 * 8];
-    struct hop hop[48];
-    struct interface interface[96];
+    uint8_t info[COMBINATOR_MAX_EDGES * COMBINATOR_INFO_SIZE];
+    struct hop hop[COMBINATOR_MAX_HOPS];
+    struct interface interface[COMBINATOR_MAX_INTERFACES];
 };
 
 static unsigned least(unsigned a, unsigned b)
@@ -487,10 +532,10 @@ static unsigned least(unsigned a, unsigned b)
 static void add_edge(struct path *path, const struct edge *e)
 {
     const struct segment *s = &m.segment[e->position];
-    unsigned n = s->entries, hops = 0, interfaces = 0, units = 255, i, k, id;
-    struct hop hop[16];
-    struct interface interface[32];
-    uint8_t *info = path->info + 8 * path->infos++;
+    unsigned n = s->entries, hops = 0, interfaces = 0, units = UINT8_MAX, i, k, id;
+    struct hop hop[COMBINATOR_MAX_ENTRIES];
+    struct interface interface[2 * COMBINATOR_MAX_ENTRIES];
+    uint8_t *info = path->info + COMBINATOR_INFO_SIZE * path->infos++;
     uint64_t end;
 
     for (i = n; i-- > e->shortcut;) {
@@ -501,7 +546,7 @@ static void add_edge(struct path *path, const struct edge *e)
             path->mtu = least(path->mtu, a->peer[e->peer].mtu);
         else if (a->ingress_mtu && !(at_shortcut && e->shortcut > 0))
             path->mtu = least(path->mtu, a->ingress_mtu);
-        path->mtu = least(path->mtu, a->mtu & 0xffff);
+        path->mtu = least(path->mtu, a->mtu & UINT16_MAX);
         if (h.egress) {
             interface[interfaces].as = a->as;
             interface[interfaces++].id = h.egress;
@@ -523,11 +568,11 @@ static void add_edge(struct path *path, const struct edge *e)
         k++;
     id = s->id;
     for (i = 0; i < k; i++)
-        id ^= (unsigned)number(s->entry[i].hop.mac, 2);
-    info[0] = (uint8_t)((along(e) ? 1 : 0) + (e->peer >= 0 ? 2 : 0));
-    info[1] = (uint8_t)hops;
-    put(info + 2, 2, id);
-    put(info + 4, 4, s->timestamp);
+        id ^= number16(s->entry[i].hop.mac);
+    info[COMBINATOR_INFO_FLAGS] = (uint8_t)((along(e) ? COMBINATOR_CONSTRUCTION : 0) + (e->peer >= 0 ? COMBINATOR_PEERING : 0));
+    info[COMBINATOR_INFO_HOP_COUNT] = (uint8_t)hops;
+    put16(info + COMBINATOR_INFO_ID, id);
+    put32(info + COMBINATOR_INFO_TIMESTAMP, s->timestamp);
 
     end = s->timestamp + ((uint64_t)units + 1) * 675 / 2;
     if (end < path->expiry)
@@ -550,54 +595,55 @@ static int loops(const struct path *p)
 static void put_path(uint8_t *out, const struct path *p)
 {
     unsigned i;
-    out[0] = (uint8_t)p->infos;
-    out[1] = (uint8_t)p->hops;
-    out[2] = (uint8_t)p->interfaces;
-    put(out + 4, 2, p->mtu);
-    put(out + 6, 4, p->expiry);
-    put(out + 10, 8, p->interface[0].as);
-    put(out + 18, 8, p->interface[p->interfaces - 1].as);
-    out += 26;
-    memcpy(out, p->info, 8 * p->infos);
-    out += 8 * p->infos;
-    for (i = 0; i < p->hops; i++, out += 11) {
-        out[0] = (uint8_t)p->hop[i].units;
-        put(out + 1, 2, p->hop[i].ingress);
-        put(out + 3, 2, p->hop[i].egress);
-        memcpy(out + 5, p->hop[i].mac, 6);
+    out[COMBINATOR_PATH_INFO_COUNT] = (uint8_t)p->infos;
+    out[COMBINATOR_PATH_HOP_COUNT] = (uint8_t)p->hops;
+    out[COMBINATOR_PATH_INTERFACE_COUNT] = (uint8_t)p->interfaces;
+    put16(out + COMBINATOR_PATH_MTU, p->mtu);
+    put32(out + COMBINATOR_PATH_EXPIRY, (uint32_t)p->expiry);
+    put64(out + COMBINATOR_PATH_FIRST_AS, p->interface[0].as);
+    put64(out + COMBINATOR_PATH_LAST_AS, p->interface[p->interfaces - 1].as);
+    out += COMBINATOR_PATH_HEAD_SIZE;
+    memcpy(out, p->info, COMBINATOR_INFO_SIZE * p->infos);
+    out += COMBINATOR_INFO_SIZE * p->infos;
+    for (i = 0; i < p->hops; i++, out += COMBINATOR_HOP_SIZE) {
+        out[COMBINATOR_HOP_UNITS] = (uint8_t)p->hop[i].units;
+        put16(out + COMBINATOR_HOP_INGRESS, p->hop[i].ingress);
+        put16(out + COMBINATOR_HOP_EGRESS, p->hop[i].egress);
+        memcpy(out + COMBINATOR_HOP_MAC, p->hop[i].mac, COMBINATOR_MAC_SIZE);
     }
-    for (i = 0; i < p->interfaces; i++, out += 8)
-        put(out, 8, p->interface[i].as);
-    for (i = 0; i < p->interfaces; i++, out += 2)
-        put(out, 2, p->interface[i].id);
+    for (i = 0; i < p->interfaces; i++, out += COMBINATOR_AS_SIZE)
+        put64(out, p->interface[i].as);
+    for (i = 0; i < p->interfaces; i++, out += COMBINATOR_INTERFACE_ID_SIZE)
+        put16(out, p->interface[i].id);
 }
 
 uint32_t model_assemble(uint64_t src, uint64_t dst, const uint8_t *book, size_t book_len, const uint8_t *record,
                         size_t record_len, uint8_t *out, size_t out_len)
 {
-    unsigned refusal = model_verdict(book, book_len), i;
+    uint32_t refusal = verdict(book, book_len);
     struct path path;
+    unsigned i;
     size_t c;
     memset(out, 0, out_len);
     if (refusal)
-        return 65536 + refusal;
-    if (out_len < 1538)
-        return 65536 + 9;
+        return refusal;
+    if (out_len < COMBINATOR_PATH_SIZE)
+        return COMBINATOR_SMALL;
     work_out(src, dst, book, book_len);
     for (c = 0; c < m.chains; c++)
-        if (record_len == 16 && !memcmp(m.record + 16 * c, record, 16))
+        if (record_len == COMBINATOR_RECORD_SIZE && !memcmp(m.record + COMBINATOR_RECORD_SIZE * c, record, COMBINATOR_RECORD_SIZE))
             break;
     if (c == m.chains)
-        return 65536 + 10;
+        return COMBINATOR_STRANGER;
     memset(&path, 0, sizeof path);
-    path.mtu = 65535;
-    path.expiry = 4294967295u;
+    path.mtu = UINT16_MAX;
+    path.expiry = UINT32_MAX;
     for (i = 0; i < m.chain[c].edges; i++)
         add_edge(&path, m.chain[c].edge[i]);
     if (path.interfaces == 0)
-        return 2;
+        return COMBINATOR_BARE;
     if (loops(&path))
-        return 1;
+        return COMBINATOR_LOOP;
     put_path(out, &path);
-    return 0;
+    return COMBINATOR_PATH;
 }

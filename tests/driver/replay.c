@@ -29,14 +29,10 @@ static size_t take_number(struct file *f, int size)
 
 static struct input take_input(struct file *f)
 {
-    struct input c;
-    size_t n = take_number(f, 4);
-    if (n < 16)
-        fail("%s: an input under 16 bytes", f->name);
-    c.src = number(take(f, 8), 8);
-    c.dst = number(take(f, 8), 8);
-    c.book_len = n - 16;
-    c.book = take(f, c.book_len);
+    size_t n = take_number(f, FRONT_SIZE);
+    struct input c = input_at(take(f, n), n);
+    if (!c.book)
+        fail("%s: an input that ends before the book", f->name);
     return c;
 }
 

@@ -46,29 +46,29 @@ int scale_mode(int args, char **arg)
     printf("Listing into %d bytes, not cleared before; assembly of every solution into %d.\n", COMBINATOR_LIST_SIZE, COMBINATOR_PATH_SIZE);
     printf("%-10s %5s %9s %9s %12s %12s\n", "growing", "size", "bytes", "solutions", "listing us", "assembly us");
     /* Two of the segments make one chain, the others lead elsewhere. */
-    for (n = 1; n <= 64; n = n < 4 ? n + 1 : n < 16 ? n + 4 : n + 16)
+    for (n = 1; n <= COMBINATOR_MAX_SEGMENTS; n = n < 4 ? n + 1 : n < 16 ? n + 4 : n + 16)
         line("segments", n, build_few(book, n, 4, 0));
-    for (n = 1; n <= 16; n++)
+    for (n = 1; n <= COMBINATOR_MAX_ENTRIES; n++)
         line("entries", n, build_few(book, 8, n, 0));
-    for (n = 0; n <= 4; n++)
+    for (n = 0; n <= COMBINATOR_MAX_PEERS; n++)
         line("peers", n, build_few(book, 8, 8, n));
     /* ups × cores × downs chains, fingerprints all different, then all equal. */
     line("chains", 0, build_chains(book, 1, 0, 1, 0));
-    for (n = 1, e = 0; n <= 4096; n *= 2, e++) {
+    for (n = 1, e = 0; n <= COMBINATOR_MAX_SOLUTIONS; n *= 2, e++) {
         ups = 1u << (e + 2) / 3, cores = 1u << (e + 1) / 3, downs = 1u << e / 3;
         line("chains", n, build_chains(book, ups, cores, downs, 0));
     }
-    for (n = 1, e = 0; n <= 4096; n *= 2, e++) {
+    for (n = 1, e = 0; n <= COMBINATOR_MAX_SOLUTIONS; n *= 2, e++) {
         ups = 1u << (e + 2) / 3, cores = 1u << (e + 1) / 3, downs = 1u << e / 3;
         line("ties", n, build_chains(book, ups, cores, downs, 1));
     }
-    line("full", 4352, build_chains(book, 17, 16, 16, 1));
+    line("above", COMBINATOR_MAX_SOLUTIONS, build_slots(book, 1, 1));
     /* Every AS and every link shared. */
-    for (n = 1; n <= 16; n++)
-        line("shared", n, build_worst(book, n, 16, 4));
-    for (n = 1; n <= 16; n++)
+    for (n = 1; n <= FULL_HALF; n++)
+        line("shared", n, build_worst(book, n, COMBINATOR_MAX_ENTRIES, COMBINATOR_MAX_PEERS));
+    for (n = 1; n <= FULL_HALF; n++)
         line("links", n, build_links(book, n));
-    for (n = 1; n <= 64; n *= 2)
+    for (n = 1; n <= COMBINATOR_MAX_SEGMENTS; n *= 2)
         line("alike", n, build_alike(book, n));
     return 0;
 }

@@ -91,17 +91,18 @@ static void measure_book(size_t len)
 
 int stack_mode(int args, char **arg)
 {
+    unsigned half;
     int i;
     stack = mmap(NULL, STACK, PROT_READ | PROT_WRITE, MAP_PRIVATE | MAP_ANONYMOUS, -1, 0);
     if (stack == MAP_FAILED)
         fail("mmap");
     measure_book(build_worked(book));
-    measure_book(build_few(book, 32, 16, 4));
-    measure_book(build_chains(book, 16, 16, 16, 0));
-    measure_book(build_chains(book, 16, 16, 16, 1));
-    measure_book(build_chains(book, 17, 16, 16, 1));
-    measure_book(build_worst(book, 7, 16, 4));
-    measure_book(build_worst(book, 16, 16, 4));
+    measure_book(build_few(book, 2 * FULL_HALF, COMBINATOR_MAX_ENTRIES, COMBINATOR_MAX_PEERS));
+    measure_book(build_slots(book, 0, 0));
+    measure_book(build_slots(book, 0, 1));
+    measure_book(build_slots(book, 1, 1));
+    for (half = 1; half <= FULL_HALF; half++)
+        measure_book(build_worst(book, half, COMBINATOR_MAX_ENTRIES, COMBINATOR_MAX_PEERS));
     for (i = 0; i < args; i++) {
         size_t len, at = 0;
         uint8_t *batch = read_file(arg[i], &len);

@@ -1,5 +1,6 @@
-/* versus FILE OUT_LEN PASSES: times of two builds of the library over a batch, in one process and in turn, case by case, so that a clock
- * that changes is the same for both. tools/versus gives their functions the names a_... and b_.... Their answers and outputs must be equal. */
+/* versus FILE OUT_LEN PASSES: times of two builds of the library over a batch, in one process and in turn, case by case, so that a clock that
+ * changes is the same for both. tools/versus gives their functions the names a_... and b_.... Their answers and outputs must be equal. An OUT_LEN
+ * of 0 is every slot. */
 #include <inttypes.h>
 #include <stdio.h>
 #include <stdlib.h>
@@ -74,6 +75,8 @@ int main(int argc, char **argv)
         usage("versus FILE OUT_LEN PASSES");
     batch = read_file(argv[1], &len);
     out_len = (size_t)strtoul(argv[2], NULL, 10);
+    if (!out_len)
+        out_len = COMBINATOR_LIST_SIZE;
     passes = atoi(argv[3]);
     for (w = 0; w < 2; w++)
         out[w] = resize(NULL, out_len);

@@ -1,90 +1,63 @@
 #!/usr/bin/env python3
-"""Document 01's bench cases, and books on which its four mistakes would show. join.py stores them.
+"""Cases that the specification settles by number, and books on which four mistakes would show. join.py stores them.
 
-Books and what is expected were written by hand from the document, numbers with their working beside them; the functions
+Books and what is expected were written by hand from it, numbers with their working beside them: they stand as they are, not by name. The functions
 here only lay bytes out. `checked` holds each case to tests/model.py. Run as a program it does only that.
 """
 import os
-import struct
 import sys
 
-sys.path.insert(0, os.path.join(os.path.dirname(os.path.abspath(__file__)), ".."))
+import form
+from form import ASSEMBLY, LISTING
+
+sys.path.insert(0, os.path.join(form.HERE, ".."))
 import model  # noqa: E402
+from booktext import layout  # noqa: E402
+from booktext.layout import BARE, CROWDED, CUT, FULL, LONG, LOOP, PATH, SMALL, STRANGER  # noqa: E402
 
 A, B, C, D = 0x0001FF0000000111, 0x0001FF0000000110, 0x0001FF0000000112, 0x0001FF0000000113
-LISTING, ASSEMBLY = 0, 1
-LIST, PATH = 65536, 1538
-AGAINST, ALONG, PEERING = 0, 1, 2       # flags of an info; the first two are a record's directions too
+AGAINST, ALONG, PEERING = 0, layout.CONSTRUCTION, layout.PEERING       # flags of an info; the first two are a record's directions too
 
 
-# ---- bytes of a book
+# ---- what a book and an answer are put together from
 
 def peer(isd_as, interface, mtu, units, ingress, egress, mac):
-    return struct.pack(">QHHBHH", isd_as, interface, mtu, units, ingress, egress) + bytes.fromhex(mac)
+    return layout.Peer(isd_as, interface, mtu, units, ingress, egress, bytes.fromhex(mac))
 
 
 def entry(isd_as, mtu, ingress_mtu, ingress, egress, units, mac, *peers):
-    fields = struct.pack(">QIHHHB", isd_as, mtu, ingress_mtu, ingress, egress, units)
-    return fields + bytes.fromhex(mac) + bytes([len(peers)]) + b"".join(peers)
+    return layout.Entry(isd_as, mtu, ingress_mtu, ingress, egress, units, bytes.fromhex(mac), peers=list(peers))
 
 
 def segment(timestamp, ident, *entries):
-    body = b"".join(entries)
-    return struct.pack(">IHHH", timestamp, ident, len(entries), len(body)), body
-
-
-def book(cores, others):
-    heads, bodies = (b"".join(s[k] for s in cores + others) for k in (0, 1))
-    return struct.pack(">HHI", len(cores), len(others), len(bodies)) + heads + bodies
-
-
-# ---- bytes of an answer
-
-def record(cost, *edges):
-    """Edges are (position, shortcut, peer or None, direction)."""
-    out = struct.pack(">HBB", cost, len(edges), 0)
-    for position, shortcut, p, direction in edges:
-        out += bytes([position, shortcut, 0 if p is None else p + 1, direction])
-    return out.ljust(16, b"\0")
+    return layout.Segment(timestamp, ident, list(entries))
 
 
 def hop(units, ingress, egress, mac):
-    return struct.pack(">BHH", units, ingress, egress) + bytes.fromhex(mac)
+    return units, ingress, egress, bytes.fromhex(mac)
 
 
-def path(mtu, expiry, infos, hops, interfaces):
-    """Infos are (flags, hop count, id, timestamp), interfaces (AS, id)."""
-    out = bytes([len(infos), len(hops), len(interfaces), 0])
-    out += struct.pack(">HIQQ", mtu, expiry, interfaces[0][0], interfaces[-1][0])
-    out += b"".join(struct.pack(">BBHI", *i) for i in infos) + b"".join(hops)
-    return out + b"".join(struct.pack(">Q", a) for a, _ in interfaces) + b"".join(struct.pack(">H", i) for _, i in interfaces)
+book, record, path = layout.book, layout.solution, layout.path
 
 
-LOOP, BARE = 1, 2
-
-
-# ---- cases, laid out as in answers.bin and refusals.bin; each has its tag in front
+# ---- cases, each with its tag in front and what it says beside it
 
 def solved(src, dst, b, *solutions):
     """Solutions are (record, path bytes or LOOP or BARE), in order."""
-    given = struct.pack(">QQ", src, dst) + b
-    out = b"\1" + struct.pack(">I", len(given)) + given + struct.pack(">H", len(solutions)) + b"".join(r for r, _ in solutions)
-    for _, p in solutions:
-        out += struct.pack(">BH", p, 0) if isinstance(p, int) else struct.pack(">BH", 0, len(p)) + p
-    return out, ("solved", src, dst, b, solutions)
+    found = [(r, p, b"") if isinstance(p, int) else (r, PATH, p) for r, p in solutions]
+    return bytes([form.ANSWERED]) + form.answered(form.given(src, dst, b), found), ("solved", src, dst, b, solutions)
 
 
 def refused(number, src, dst, b, call, room, given_record=b""):
     """Number 0 where the call is not refused."""
-    given = struct.pack(">QQ", src, dst) + b
-    out = b"\2" + struct.pack(">I", len(given)) + given + struct.pack(">BIH", call, room, len(given_record)) + given_record
-    return out + bytes([number]), ("refused", number, src, dst, b, call, room, given_record)
+    out = bytes([form.CALLED]) + form.called(form.given(src, dst, b), call, room, given_record, number)
+    return out, ("refused", number, src, dst, b, call, room, given_record)
 
 
 def refused_by_both(number, src, dst, b):
     """An answer about the book alone, with and without room, whatever the record."""
-    return [refused(number, src, dst, b, LISTING, LIST), refused(number, src, dst, b, LISTING, 0),
-            refused(number, src, dst, b, ASSEMBLY, PATH, WORKED_RECORD), refused(number, src, dst, b, ASSEMBLY, 0)]
+    return [refused(number, src, dst, b, LISTING, layout.LIST_SIZE), refused(number, src, dst, b, LISTING, 0),
+            refused(number, src, dst, b, ASSEMBLY, layout.PATH_SIZE, WORKED_RECORD), refused(number, src, dst, b, ASSEMBLY, 0)]
 
 
 BENCH = {}      # label: its cases
@@ -93,7 +66,7 @@ BENCH = {}      # label: its cases
 # ---- the printed list
 
 def worked(timestamp=1000000, mtu=1500, units=63, peers=()):
-    """The segment of document 01's list, from B down to A."""
+    """The segment of the worked example, from B down to A."""
     return segment(timestamp, 0x1234, entry(B, mtu, 0, 0, 5, units, "010203040506", *peers),
                    entry(A, 1400, 1350, 7, 0, 63, "0a0b0c0d0e0f"))
 
@@ -108,9 +81,9 @@ WORKED_PATH = path(1350, 1021600, [(AGAINST, 2, 0x1336, 1000000)], [hop(63, 7, 0
 
 BENCH["8 zero bytes"] = [solved(A, B, bytes(8))]
 
-BENCH["7 bytes"] = refused_by_both(1, A, B, bytes(7))
+BENCH["7 bytes"] = refused_by_both(CUT, A, B, bytes(7))
 
-BENCH["8 bytes with C 65"] = refused_by_both(4, A, B, bytes.fromhex("0041 0000 00000000"))
+BENCH["8 bytes with C 65"] = refused_by_both(CROWDED, A, B, bytes.fromhex("0041 0000 00000000"))
 
 
 # ---- limits
@@ -126,19 +99,23 @@ BENCH["C + N = 64"] = [
     solved(A, B, book([], MANY), *MANY_FOUND),
     solved(A, B, book(MANY, []), *MANY_FOUND),          # one edge of any kind
     solved(A, B, book([EMPTY] * 32, [EMPTY] * 31 + [worked()]), (record(1, (63, 0, None, AGAINST)), WORKED_PATH)),
-    *refused_by_both(4, A, B, book(MANY, [worked()])),
-    *refused_by_both(4, A, B, book([EMPTY] * 32, [EMPTY] * 33)),
+    *refused_by_both(CROWDED, A, B, book(MANY, [worked()])),
+    *refused_by_both(CROWDED, A, B, book([EMPTY] * 32, [EMPTY] * 33)),
 ]
 
 
-# Entry i of a long segment: AS i + 1, ingress 100 + i (0 at the first), egress 200 + i (0 at the last), ingress MTU 1500 + i
+# Entry i of a segment of the most entries: AS i + 1, ingress 100 + i (0 at the first), egress 200 + i (0 at the last), ingress MTU 1500 + i
 # (0 at the first), units 100 − i, and a MAC that starts with bit i, so that the fold over the entries below k sets the bits below k.
+MOST = layout.MAX_ENTRIES
+LEAF = MOST - 1
+
+
 def long_entry(i, n):
     return entry(i + 1, 1600, 1500 + i if i else 0, 100 + i if i else 0, 200 + i if i < n - 1 else 0, 100 - i, f"{1 << i % 16:04x}03040506")
 
 
 def long_hop(i):
-    return hop(100 - i, 100 + i if i else 0, 200 + i if i < 15 else 0, f"{1 << i:04x}03040506")
+    return hop(100 - i, 100 + i if i else 0, 200 + i if i < LEAF else 0, f"{1 << i:04x}03040506")
 
 
 def long_interfaces(i):
@@ -146,27 +123,31 @@ def long_interfaces(i):
     return [(i + 1, 200 + i), (i + 1, 100 + i)]
 
 
-LONGEST = book([], [segment(1000000, 0x8000, *[long_entry(i, 16) for i in range(16)])])
-LONGER = book([], [segment(1000000, 0x8000, *[long_entry(i, 17) for i in range(17)])])
-DOWN = list(range(15, -1, -1))
-ALL_INTERFACES = [(16, 115)] + [x for i in DOWN[1:15] for x in long_interfaces(i)] + [(1, 200)]
-# The least units are those of entry 15: floor(86 × 675 / 2) = 29025.
-BENCH["16 entries pass, 17 are refused"] = [
-    # Against construction the bits below 15: 8000 xor 7fff = ffff. MTU: ingress MTU of entry 1.
-    solved(16, 1, LONGEST, (record(15, (0, 0, None, AGAINST)),
-                            path(1501, 1029025, [(AGAINST, 16, 0xFFFF, 1000000)], [long_hop(i) for i in DOWN], ALL_INTERFACES))),
+LONGEST = book([], [segment(1000000, 0x8000, *[long_entry(i, MOST) for i in range(MOST)])])
+LONGER = book([], [segment(1000000, 0x8000, *[long_entry(i, MOST + 1) for i in range(MOST + 1)])])
+DOWN = list(range(LEAF, -1, -1))
+ALL_INTERFACES = [(MOST, 100 + LEAF)] + [x for i in DOWN[1:LEAF] for x in long_interfaces(i)] + [(1, 200)]
+# The least units are those of the leaf. Of 16 entries: floor(86 × 675 / 2) = 29025.
+EXPIRY = 1000000 + (100 - LEAF + 1) * 675 // 2
+# Against construction the bits below the leaf. Of 16 entries: 8000 xor 7fff = ffff.
+FOLDED = 0x8000 ^ ((1 << LEAF) - 1)
+# Shortcut at entry 7, which shows its egress alone.
+SHORTCUT, HOPS = 7, MOST - 7
+SHORT_INTERFACES = [(MOST, 100 + LEAF)] + [x for i in DOWN[1:LEAF - SHORTCUT] for x in long_interfaces(i)] + [(8, 207)]
+BENCH[f"{MOST} entries pass, {MOST + 1} are refused"] = [
+    # MTU: ingress MTU of entry 1.
+    solved(MOST, 1, LONGEST, (record(LEAF, (0, 0, None, AGAINST)),
+                              path(1501, EXPIRY, [(AGAINST, MOST, FOLDED, 1000000)], [long_hop(i) for i in DOWN], ALL_INTERFACES))),
     # In construction direction no MAC is folded in.
-    solved(1, 16, LONGEST, (record(15, (0, 0, None, ALONG)),
-                            path(1501, 1029025, [(ALONG, 16, 0x8000, 1000000)], [long_hop(i) for i in DOWN[::-1]], ALL_INTERFACES[::-1]))),
-    # Shortcut at entry 7: 15 − 7 = 8 links, 9 hops. Entry 7 shows its egress alone, and its ingress MTU does not count: 1508 of entry 8.
-    solved(16, 8, LONGEST, (record(8, (0, 7, None, AGAINST)),
-                            path(1508, 1029025, [(AGAINST, 9, 0xFFFF, 1000000)], [long_hop(i) for i in DOWN[:9]],
-                                 [(16, 115)] + [x for i in DOWN[1:8] for x in long_interfaces(i)] + [(8, 207)]))),
+    solved(1, MOST, LONGEST, (record(LEAF, (0, 0, None, ALONG)),
+                              path(1501, EXPIRY, [(ALONG, MOST, 0x8000, 1000000)], [long_hop(i) for i in DOWN[::-1]], ALL_INTERFACES[::-1]))),
+    # The ingress MTU of entry 7 does not count: 1508 of entry 8.
+    solved(MOST, 8, LONGEST, (record(LEAF - SHORTCUT, (0, SHORTCUT, None, AGAINST)),
+                              path(1508, EXPIRY, [(AGAINST, HOPS, FOLDED, 1000000)], [long_hop(i) for i in DOWN[:HOPS]], SHORT_INTERFACES))),
     # The same way back: the bits below 7, 8000 xor 007f = 807f.
-    solved(8, 16, LONGEST, (record(8, (0, 7, None, ALONG)),
-                            path(1508, 1029025, [(ALONG, 9, 0x807F, 1000000)], [long_hop(i) for i in DOWN[:9]][::-1],
-                                 ([(16, 115)] + [x for i in DOWN[1:8] for x in long_interfaces(i)] + [(8, 207)])[::-1]))),
-    *refused_by_both(5, 16, 1, LONGER),
+    solved(8, MOST, LONGEST, (record(LEAF - SHORTCUT, (0, SHORTCUT, None, ALONG)),
+                              path(1508, EXPIRY, [(ALONG, HOPS, 0x807F, 1000000)], [long_hop(i) for i in DOWN[:HOPS]][::-1], SHORT_INTERFACES[::-1]))),
+    *refused_by_both(LONG, MOST, 1, LONGER),
 ]
 
 
@@ -249,13 +230,13 @@ BENCH["AS MTU 70000"] = [
 
 # ---- slots
 
-# A call that is not refused is held to the one with 65,536 bytes, which is the first case.
+# A call that is not refused is held to the one with every slot, which is the first case.
 BENCH["one solution, no slot or one"] = [
     solved(A, B, WORKED, (WORKED_RECORD, WORKED_PATH)),
-    refused(8, A, B, WORKED, LISTING, 0),
-    refused(8, A, B, WORKED, LISTING, 15),
-    refused(0, A, B, WORKED, LISTING, 16),
-    refused(0, A, B, WORKED, LISTING, 31),
+    refused(FULL, A, B, WORKED, LISTING, 0),
+    refused(FULL, A, B, WORKED, LISTING, layout.RECORD_SIZE - 1),
+    refused(0, A, B, WORKED, LISTING, layout.RECORD_SIZE),
+    refused(0, A, B, WORKED, LISTING, 2 * layout.RECORD_SIZE - 1),
 ]
 
 
@@ -367,7 +348,7 @@ def model_path(chain):
     if not isinstance(p, model.Path):
         return {"loop": LOOP, "bare": BARE}[p]
     return path(p.mtu, p.expiry, [(flags, hops, ident, timestamp) for flags, ident, timestamp, hops in p.infos],
-                [hop(h.units, h.ingress, h.egress, h.mac.hex()) for h in p.hops], p.interfaces)
+                p.hops, p.interfaces)
 
 
 def model_refusal(src, dst, b, call, room, given):
@@ -375,10 +356,10 @@ def model_refusal(src, dst, b, call, room, given):
         return model.verdict(b)
     found = model.solutions(b, src, dst)
     if call == LISTING:
-        return 8 if len(found) > min(4096, room // 16) else 0
-    if room < PATH:
-        return 9
-    return 0 if given in map(model_record, found) else 10
+        return FULL if len(found) > min(layout.MAX_SOLUTIONS, room // layout.RECORD_SIZE) else 0
+    if room < layout.PATH_SIZE:
+        return SMALL
+    return 0 if given in map(model_record, found) else STRANGER
 
 
 def checked():

@@ -3,63 +3,66 @@
 
     refusals.py OUT
 
-Each case has its number beside it, by document 01. `verdict` works out 1 to 7 once more from the document's table,
-in its order of tests, and must agree. It needs nothing of the rest of the repository.
+Each case has its number beside it, by docs/SPECIFICATION.md 9.2. `verdict` works out those about a book alone once more, in the order of tests
+of 9.3 and 9.4, and must agree. Of the rest of the repository it needs the layout of the bytes alone.
 """
-import struct
 import sys
+
+import form
+from form import ASSEMBLY, LISTING
+from booktext import layout
+from booktext.layout import (COUNTS, CROWDED, CUT, ENTRY, FULL, HEAD, LIST_SIZE, LONG, MAX_BOOK, MAX_ENTRIES, MAX_PEERS, MAX_SEGMENTS, MAX_SOLUTIONS,
+                             MISFIT, OVERSIZE, PATH_SIZE, PEER, PEERS, RECORD_SIZE, SMALL, STRANGER, SURPLUS, head_place, solution)
 
 A, B, X, Y = 0x0001FF0000000111, 0x0001FF0000000110, 0x0001FF0000000210, 0x0001FF0000000310
 MAC = bytes.fromhex("010203040506")
-CUT, SURPLUS, OVERSIZE, CROWDED, LONG, PEERS, MISFIT, FULL, SMALL, STRANGER = range(1, 11)
 
 
 def verdict(book):
-    """Order: 3, 1 (8 bytes), 4, 1, 2, 5 over all heads, 7 (sum), bodies by position."""
-    if len(book) > 61440:
-        return 3
-    if len(book) < 8:
-        return 1
-    c, n, total = struct.unpack_from(">HHI", book)
-    if c + n > 64:
-        return 4
-    length = 8 + 10 * (c + n) + total
-    if len(book) != length:
-        return 1 if len(book) < length else 2
-    heads = [struct.unpack_from(">IHHH", book, 8 + 10 * p) for p in range(c + n)]
-    if max([h[2] for h in heads], default=0) > 16:
-        return 5
-    if sum(h[3] for h in heads) != total:
-        return 7
-    at = 8 + 10 * (c + n)
-    for _, _, entries, size in heads:
-        body, at = book[at:at + size], at + size
-        for _ in range(entries):
-            if len(body) < 26:
-                return 7
-            peers, body = body[25], body[26:]
-            if peers > 4:
-                return 6
-            if len(body) < 23 * peers:
-                return 7
-            body = body[23 * peers:]
+    """The first that holds of: 3, 1 (the counts themselves), 4, 1, 2, 5 over all heads, 7 (the sum), bodies by position."""
+    if len(book) > MAX_BOOK:
+        return OVERSIZE
+    if len(book) < COUNTS.size:
+        return CUT
+    c, n, total = COUNTS.unpack(book)
+    if c + n > MAX_SEGMENTS:
+        return CROWDED
+    at = head_place(c + n)
+    if len(book) != at + total:
+        return CUT if len(book) < at + total else SURPLUS
+    heads = [HEAD.unpack(book, head_place(p)) for p in range(c + n)]
+    if max([h.entry_count for h in heads], default=0) > MAX_ENTRIES:
+        return LONG
+    if sum(h.body_length for h in heads) != total:
+        return MISFIT
+    for h in heads:
+        body, at = book[at:at + h.body_length], at + h.body_length
+        for _ in range(h.entry_count):
+            if len(body) < ENTRY.size:
+                return MISFIT
+            peers, body = body[ENTRY.at.peer_count], body[ENTRY.size:]
+            if peers > MAX_PEERS:
+                return PEERS
+            if len(body) < PEER.size * peers:
+                return MISFIT
+            body = body[PEER.size * peers:]
         if body:
-            return 7
+            return MISFIT
     return 0
 
 
 def entry(as_, ingress=0, egress=0, peers=0, said=None):
     """An entry with `peers` peers, though it may say another number."""
-    e = struct.pack(">QIHHHB", as_, 1500, 0, ingress, egress, 63) + MAC + bytes([peers if said is None else said])
-    return e + peers * (struct.pack(">QHHBHH", Y, 1, 1400, 63, 1, 1) + MAC)
+    e = ENTRY.pack(isd_as=as_, mtu=1500, ingress=ingress, egress=egress, units=63, mac=MAC, peer_count=peers if said is None else said)
+    return e + peers * PEER.pack(isd_as=Y, interface=1, mtu=1400, units=63, ingress=1, egress=1, mac=MAC)
 
 
 def book(*segments, cores=0, noncores=None, total=None, heads=None):
     """Segments are (entry count, body); a count or length in the book may be said otherwise."""
     said = heads if heads is not None else [(n, len(body)) for n, body in segments]
     bodies = b"".join(body for _, body in segments)
-    out = struct.pack(">HHI", cores, len(segments) - cores if noncores is None else noncores, len(bodies) if total is None else total)
-    return out + b"".join(struct.pack(">IHHH", 1000000, p, n, size) for p, (n, size) in enumerate(said)) + bodies
+    out = COUNTS.pack(cores, len(segments) - cores if noncores is None else noncores, len(bodies) if total is None else total)
+    return out + b"".join(HEAD.pack(1000000, p, n, size) for p, (n, size) in enumerate(said)) + bodies
 
 
 def seg(*entries):
@@ -71,7 +74,8 @@ def two(top, leaf, i=1):
 
 
 WORKED = book(seg(entry(B, 0, 5), entry(A, 7, 0)))
-RECORD = bytes([0, 1, 1, 0, 0, 0, 0, 0]) + bytes(8)     # cost 1, one edge: position 0, no peer, against construction
+AGAINST, ALONG = 0, layout.CONSTRUCTION
+RECORD = solution(1, (0, 0, None, AGAINST))
 
 
 def chains(ups, cores, downs):
@@ -80,15 +84,21 @@ def chains(ups, cores, downs):
     return book(*segments, cores=cores)
 
 
+def sides(product):
+    """Three numbers with this product, of the least sum."""
+    most = range(1, MAX_SEGMENTS)
+    return min(((a, b, product // (a * b)) for a in most for b in most if product % (a * b) == 0), key=sum)
+
+
 CASES = []
 
 
-def listing(number, b, out_len=65536, src=A, dst=B):
-    CASES.append((src, dst, b, 0, out_len, b"", number))
+def listing(number, b, out_len=LIST_SIZE, src=A, dst=B):
+    CASES.append((src, dst, b, LISTING, out_len, b"", number))
 
 
-def assembly(number, b, record=RECORD, out_len=1538, src=A, dst=B):
-    CASES.append((src, dst, b, 1, out_len, record, number))
+def assembly(number, b, record=RECORD, out_len=PATH_SIZE, src=A, dst=B):
+    CASES.append((src, dst, b, ASSEMBLY, out_len, record, number))
 
 
 def both(number, b):
@@ -101,55 +111,60 @@ def both(number, b):
 
 
 # 1 Cut
-for n in (0, 1, 7):
+for n in (0, 1, COUNTS.size - 1):
     both(CUT, bytes(n))
-both(0, bytes(8))
-for n in (8, 17, 18, 69):
+both(0, bytes(COUNTS.size))
+for n in (COUNTS.size, head_place(1) - 1, head_place(1), len(WORKED) - 1):
     both(CUT, WORKED[:n])
 both(0, WORKED)
 both(CUT, book(total=1))
-both(CUT, book(total=2 ** 32 - 1))
-both(CUT, book(cores=64, noncores=0)[:8])
-both(CUT, book(cores=0, noncores=64) + bytes(639))
+both(CUT, book(total=COUNTS.of.bodies.most))
+HEADS = HEAD.size * MAX_SEGMENTS
+both(CUT, book(cores=MAX_SEGMENTS, noncores=0)[:COUNTS.size])
+both(CUT, book(cores=0, noncores=MAX_SEGMENTS) + bytes(HEADS - 1))
 # 2 Surplus
-both(SURPLUS, bytes(9))
+both(SURPLUS, bytes(COUNTS.size + 1))
 both(SURPLUS, WORKED + b"\0")
-both(SURPLUS, bytes(61440))
-both(SURPLUS, book(cores=0, noncores=64) + bytes(641))
+both(SURPLUS, bytes(MAX_BOOK))
+both(SURPLUS, book(cores=0, noncores=MAX_SEGMENTS) + bytes(HEADS + 1))
 # 3 Oversize, before all others
-both(OVERSIZE, bytes(61441))
+both(OVERSIZE, bytes(MAX_BOOK + 1))
 # 4 Crowded, before Cut by the sum, Surplus and what is below
-both(CROWDED, book(cores=65, noncores=0))
-both(CROWDED, book(cores=0, noncores=65))
-both(CROWDED, book(cores=32, noncores=33))
-both(CROWDED, book(cores=65535, noncores=65535, total=2 ** 32 - 1))
-both(CROWDED, book(cores=1, noncores=64) + bytes(650))
-both(0, book(cores=32, noncores=32) + bytes(640))
-both(0, book(cores=64, noncores=0) + bytes(640))
+MANY, HALF = MAX_SEGMENTS + 1, MAX_SEGMENTS // 2
+both(CROWDED, book(cores=MANY, noncores=0))
+both(CROWDED, book(cores=0, noncores=MANY))
+both(CROWDED, book(cores=HALF, noncores=HALF + 1))
+both(CROWDED, book(cores=COUNTS.of.cores.most, noncores=COUNTS.of.non_cores.most, total=COUNTS.of.bodies.most))
+both(CROWDED, book(cores=1, noncores=MAX_SEGMENTS) + bytes(HEADS + HEAD.size))
+both(0, book(cores=HALF, noncores=HALF) + bytes(HEADS))
+both(0, book(cores=MAX_SEGMENTS, noncores=0) + bytes(HEADS))
 # 5 Long, over all heads before the sum and the bodies
-full = [entry(X, 1, 1) for _ in range(17)]
-both(0, book(seg(*full[:16])))
+MANY = MAX_ENTRIES + 1
+full = [entry(X, 1, 1) for _ in range(MANY)]
+both(0, book(seg(*full[:MAX_ENTRIES])))
 both(LONG, book(seg(*full)))
-both(LONG, book((17, b"")))
-both(LONG, book((65535, b"")))
-both(LONG, book(seg(entry(A, said=5)), (17, b"")))
-both(LONG, book((0, b"x"), (17, b""), heads=[(0, 0), (17, 0)]))
+both(LONG, book((MANY, b"")))
+both(LONG, book((HEAD.of.entry_count.most, b"")))
+both(LONG, book(seg(entry(A, said=MAX_PEERS + 1)), (MANY, b"")))
+both(LONG, book((0, b"x"), (MANY, b""), heads=[(0, 0), (MANY, 0)]))
 # 6 Peers
-both(0, book(seg(entry(A, peers=4))))
-both(PEERS, book(seg(entry(A, peers=5))))
-both(PEERS, book(seg(entry(A, said=5))))
-both(PEERS, book(seg(entry(A, said=255))))
-both(PEERS, book(seg(entry(B), entry(A, said=5))))
-both(PEERS, book(seg(entry(A, said=5)), (1, b"")))
-both(PEERS, book(seg(entry(X, peers=1), entry(A, said=6)), cores=1))
+MANY = MAX_PEERS + 1
+both(0, book(seg(entry(A, peers=MAX_PEERS))))
+both(PEERS, book(seg(entry(A, peers=MANY))))
+both(PEERS, book(seg(entry(A, said=MANY))))
+both(PEERS, book(seg(entry(A, said=ENTRY.of.peer_count.most))))
+both(PEERS, book(seg(entry(B), entry(A, said=MANY))))
+both(PEERS, book(seg(entry(A, said=MANY)), (1, b"")))
+both(PEERS, book(seg(entry(X, peers=1), entry(A, said=MANY + 1)), cores=1))
 # 7 Misfit: the sum
-both(MISFIT, book(seg(entry(A)), heads=[(1, 25)]))
-both(MISFIT, book(seg(entry(A)), heads=[(1, 27)]))
-both(MISFIT, book(seg(entry(A, said=5)), heads=[(1, 27)]))
-both(MISFIT, book(seg(entry(A)), seg(entry(B)), heads=[(1, 26), (1, 25)]))
+FIT, LESS, MORE = (1, ENTRY.size), (1, ENTRY.size - 1), (1, ENTRY.size + 1)
+both(MISFIT, book(seg(entry(A)), heads=[LESS]))
+both(MISFIT, book(seg(entry(A)), heads=[MORE]))
+both(MISFIT, book(seg(entry(A, said=MANY)), heads=[MORE]))
+both(MISFIT, book(seg(entry(A)), seg(entry(B)), heads=[FIT, LESS]))
 # 7 Misfit: a body
 both(MISFIT, book((1, b"")))
-both(MISFIT, book((1, entry(A)[:25])))
+both(MISFIT, book((1, entry(A)[:-1])))
 both(MISFIT, book((1, entry(A) + b"\0")))
 both(MISFIT, book((0, b"\0")))
 both(MISFIT, book((2, entry(A))))
@@ -158,71 +173,78 @@ both(MISFIT, book(seg(entry(A, said=1))))
 both(MISFIT, book(seg(entry(A, peers=2, said=1))))
 both(MISFIT, book(seg(entry(A, peers=1, said=2))))
 both(MISFIT, book((1, entry(A, peers=1)[:-1])))
-both(MISFIT, book(seg(entry(A)), seg(entry(B)), heads=[(1, 27), (1, 25)]))
-both(MISFIT, book((1, b""), seg(entry(A, said=5))))
+both(MISFIT, book(seg(entry(A)), seg(entry(B)), heads=[MORE, LESS]))
+both(MISFIT, book((1, b""), seg(entry(A, said=MANY))))
 both(0, book((0, b""), seg(entry(A))))
-# 8 Full: one solution and no slot, one slot; 4,096 and more
-for n in (0, 1, 15):
+# 8 Full: one solution and no slot, one slot; all slots and more
+for n in (0, 1, RECORD_SIZE - 1):
     listing(FULL, WORKED, n)
-for n in (16, 17, 31, 32):
+for n in (RECORD_SIZE, RECORD_SIZE + 1, 2 * RECORD_SIZE - 1, 2 * RECORD_SIZE):
     listing(0, WORKED, n)
-for n in (0, 15):
+for n in (0, RECORD_SIZE - 1):
     listing(0, WORKED, n, src=X)          # no solution needs no slot
     listing(0, WORKED, n, src=B)          # equal ends
-listing(FULL, chains(2, 2, 2), 127)
-listing(0, chains(2, 2, 2), 128)
-listing(0, chains(16, 16, 16), 65536)
-listing(FULL, chains(16, 16, 16), 65535)
-listing(FULL, chains(17, 16, 16), 65536)
-listing(FULL, chains(17, 16, 16), 131072)
+listing(FULL, chains(2, 2, 2), 8 * RECORD_SIZE - 1)
+listing(0, chains(2, 2, 2), 8 * RECORD_SIZE)
+UPS, MIDDLE, DOWNS = sides(MAX_SOLUTIONS)
+listing(0, chains(UPS, MIDDLE, DOWNS), LIST_SIZE)
+listing(FULL, chains(UPS, MIDDLE, DOWNS), LIST_SIZE - 1)
+listing(FULL, chains(UPS + 1, MIDDLE, DOWNS), LIST_SIZE)
+listing(FULL, chains(UPS + 1, MIDDLE, DOWNS), 2 * LIST_SIZE)
 # 9 Small, before Stranger
-for n in (0, 1, 1537):
+for n in (0, 1, PATH_SIZE - 1):
     assembly(SMALL, WORKED, out_len=n)
-    assembly(SMALL, WORKED, bytes(16), n)
+    assembly(SMALL, WORKED, bytes(RECORD_SIZE), n)
     assembly(SMALL, WORKED, b"", n)
-for n in (1538, 1539, 4096):
+for n in (PATH_SIZE, PATH_SIZE + 1, 4096):
     assembly(0, WORKED, out_len=n)
 # 10 Stranger: another length
-for n in (0, 1, 15):
+for n in (0, 1, RECORD_SIZE - 1):
     assembly(STRANGER, WORKED, RECORD[:n])
-for n in (17, 32):
+for n in (RECORD_SIZE + 1, 2 * RECORD_SIZE):
     assembly(STRANGER, WORKED, RECORD.ljust(n, b"\0"))
 # ... a byte changed, each in turn
-for at in range(16):
+for at in range(RECORD_SIZE):
     for by in (1, 2, 128):
         assembly(STRANGER, WORKED, RECORD[:at] + bytes([RECORD[at] ^ by]) + RECORD[at + 1:])
-assembly(STRANGER, WORKED, bytes(16))
-assembly(STRANGER, WORKED, b"\xff" * 16)
+assembly(STRANGER, WORKED, bytes(RECORD_SIZE))
+assembly(STRANGER, WORKED, b"\xff" * RECORD_SIZE)
 # ... of another source or destination, of equal ends, of an empty book
 assembly(STRANGER, WORKED, src=B, dst=A)
 assembly(STRANGER, WORKED, src=X)
 assembly(STRANGER, WORKED, dst=X)
 assembly(STRANGER, WORKED, src=A, dst=A)
 assembly(STRANGER, WORKED, src=B, dst=B)
-assembly(STRANGER, bytes(8))
+assembly(STRANGER, bytes(COUNTS.size))
 # ... the second of equal segments; the first is none
-SAME = [seg(entry(B, 0, 5), entry(A, 7, 0))] * 2
-EQUAL = struct.pack(">HHI", 0, 2, 104) + 2 * struct.pack(">IHHH", 1000000, 0, 2, 52) + SAME[0][1] + SAME[1][1]
-listing(0, EQUAL, 16)
+COUNT, BODY = seg(entry(B, 0, 5), entry(A, 7, 0))
+EQUAL = COUNTS.pack(0, 2, 2 * len(BODY)) + 2 * HEAD.pack(1000000, 0, COUNT, len(BODY)) + 2 * BODY
+listing(0, EQUAL, RECORD_SIZE)
 assembly(0, EQUAL)
-assembly(STRANGER, EQUAL, RECORD[:4] + b"\1" + RECORD[5:])
+assembly(STRANGER, EQUAL, solution(1, (1, 0, None, AGAINST)))
 # ... two cores; a chain past the destination; Full does not make a chain a stranger
 CORES = book(two(A, X), two(X, B), cores=2)
 listing(0, CORES, 0)
-assembly(STRANGER, CORES, bytes([0, 2, 2, 0, 0, 0, 0, 1, 1, 0, 0, 1]) + bytes(4))
-MANY = chains(17, 16, 16)
-assembly(0, MANY, bytes([0, 3, 3, 0, 16, 0, 0, 0, 0, 0, 0, 0, 33, 0, 0, 1]))
-assembly(0, MANY, bytes([0, 3, 3, 0, 32, 0, 0, 0, 15, 0, 0, 0, 48, 0, 0, 1]))
-assembly(STRANGER, MANY, bytes([0, 3, 3, 0, 33, 0, 0, 0, 15, 0, 0, 0, 48, 0, 0, 1]))
+assembly(STRANGER, CORES, solution(2, (0, 0, None, ALONG), (1, 0, None, ALONG)))
+LARGE = chains(UPS + 1, MIDDLE, DOWNS)
+FIRST_UP, FIRST_DOWN = MIDDLE, MIDDLE + UPS + 1
+
+
+def three(up, core, down):
+    return solution(3, (up, 0, None, AGAINST), (core, 0, None, AGAINST), (down, 0, None, ALONG))
+
+
+assembly(0, LARGE, three(FIRST_UP, 0, FIRST_DOWN))
+assembly(0, LARGE, three(FIRST_DOWN - 1, MIDDLE - 1, FIRST_DOWN + DOWNS - 1))
+assembly(STRANGER, LARGE, three(FIRST_DOWN, MIDDLE - 1, FIRST_DOWN + DOWNS - 1))
 
 
 def main():
     numbers = {}
     with open(sys.argv[1], "wb") as f:
         for src, dst, b, call, out_len, record, number in CASES:
-            assert number > 7 or verdict(b) == number
-            given = struct.pack(">QQ", src, dst) + b
-            f.write(struct.pack(">I", len(given)) + given + struct.pack(">BIH", call, out_len, len(record)) + record + bytes([number]))
+            assert number > MISFIT or verdict(b) == number
+            f.write(form.called(form.given(src, dst, b), call, out_len, record, number))
             numbers[number] = numbers.get(number, 0) + 1
     print(f"{len(CASES)} cases by number: {dict(sorted(numbers.items()))}")
 

@@ -3,3 +3,7 @@
 
 class BookError(Exception):
     """Something wrong with what was given, in words for the operator."""
+
+
+def counted(number, one, many=None):
+    return f"{number} {one if number == 1 else many or one + 's'}"

@@ -1,8 +1,7 @@
 """The text for Graphviz: boxes with interface ids at their sides, links, coloured paths, a legend."""
 import html
 
-from . import isd_as, times
-from .layout import counted
+from . import counted, isd_as, times
 from .picture import PEERING, UNLISTED
 
 MOST_SEGMENTS = 24

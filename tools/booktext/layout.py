@@ -1,262 +1,231 @@
-"""The bytes of a book (document 01): the fields of each record, the limits, reading, writing and the refusals 1 to 7."""
-from dataclasses import dataclass, field
-from typing import NamedTuple
+"""Books, solution records and path records as bytes: every size, place, limit and number of theirs that Python code uses, each once.
 
-from . import BookError
+Books stand in docs/SPECIFICATION.md 2, records in 8, answers in 9, limits in 11. tests/layout holds all this to include/combinator.h, to the Rust
+beside it and to the proved code. Bytes are only laid out and read here; what is accepted, and what it means, is said elsewhere.
+"""
+import struct
+from collections import namedtuple
+from dataclasses import dataclass, field, make_dataclass
+from operator import attrgetter
+from typing import NamedTuple
 
 
 class Field(NamedTuple):
     name: str
     size: int
-    style: str = "number"  # how it is written in text: number, hex or isd-as
+    style: str = "number"  # how it is written in text: number, hex, isd-as; bytes, in hex too, are no number
 
     @property
     def attribute(self):
         return self.name.replace("-", "_")
 
     @property
+    def zero(self):
+        return bytes(self.size) if self.style == "bytes" else 0
+
+    @property
     def most(self):
         return (1 << 8 * self.size) - 1
 
 
-# In the order of the bytes. A head goes on with entry count and body length, an entry with its peer count.
-SEGMENT_FIELDS = (Field("timestamp", 4), Field("id", 2, "hex"))
-ENTRY_FIELDS = (Field("isd-as", 8, "isd-as"), Field("mtu", 4), Field("ingress-mtu", 2), Field("ingress", 2),
-                Field("egress", 2), Field("units", 1), Field("mac", 6, "hex"))
-PEER_FIELDS = (Field("isd-as", 8, "isd-as"), Field("interface", 2), Field("mtu", 2), Field("units", 1),
-               Field("ingress", 2), Field("egress", 2), Field("mac", 6, "hex"))
+class Record:
+    """Fields one after the other, big-endian. The names of the header's constants begin with `prefix`; its size is `size_name` there."""
+
+    CODES = {1: "B", 2: "H", 4: "I", 8: "Q"}
+
+    def __init__(self, prefix, *fields, size_name="SIZE"):
+        self.prefix, self.fields, self.size_name = prefix, fields, f"{prefix}_{size_name}"
+        names = [f.attribute for f in fields]
+        self.of = namedtuple("Fields", names)(*fields)
+        self.at = namedtuple("Places", names)(*(sum(f.size for f in fields[:k]) for k in range(len(fields))))
+        self.values = namedtuple("Values", names, defaults=[f.zero for f in fields])
+        # A number of other bytes than struct knows goes through it as bytes.
+        self.odd = [k for k, f in enumerate(fields) if f.style != "bytes" and f.size not in self.CODES]
+        self.form = struct.Struct(">" + "".join(f"{f.size}s" if f.style == "bytes" or k in self.odd else self.CODES[f.size] for k, f in enumerate(fields)))
+        self.size = self.form.size
+        self.values_of = attrgetter(*names)
+
+    def laid(self, values):
+        if self.odd:
+            values = [v.to_bytes(self.fields[k].size, "big") if k in self.odd else v for k, v in enumerate(values)]
+        return self.form.pack(*values)
+
+    def pack(self, *values, **named):
+        """Fields that are not given are zero."""
+        return self.laid(self.values(*values, **named))
+
+    def pack_of(self, made):
+        """Of what has the fields as attributes."""
+        return self.laid(self.values_of(made))
+
+    def unpack(self, data, at=0):
+        values = self.form.unpack_from(data, at)
+        if self.odd:
+            values = [int.from_bytes(v, "big") if k in self.odd else v for k, v in enumerate(values)]
+        return self.values(*values)
+
+    def get(self, data, at, name):
+        """One number; bytes past the end are left out."""
+        start = at + getattr(self.at, name)
+        return int.from_bytes(data[start:start + getattr(self.of, name).size], "big")
+
+    def put(self, data, at, name, number):
+        start, size = at + getattr(self.at, name), getattr(self.of, name).size
+        data[start:start + size] = number.to_bytes(size, "big")
 
 
-def size_of(fields):
-    return sum(f.size for f in fields)
+# ---- limits
 
-
-SIZES_SIZE = 8
-HEAD_SIZE = size_of(SEGMENT_FIELDS) + 4
-ENTRY_SIZE = size_of(ENTRY_FIELDS) + 1
-PEER_SIZE = size_of(PEER_FIELDS)
-
-MAX_BOOK = 61440
+MAX_BOOK = 61440        # bytes
 MAX_SEGMENTS = 64
-MAX_ENTRIES = 16
-MAX_PEERS = 4
+MAX_ENTRIES = 16        # of a segment
+MAX_PEERS = 4           # of an entry
+MAX_EDGES = 3           # of a solution
+MAX_SOLUTIONS = 4096    # slots
+MAX_HOPS = MAX_EDGES * MAX_ENTRIES
+MAX_INTERFACES = 2 * MAX_HOPS
 
-WORDS = {1: "Cut", 2: "Surplus", 3: "Oversize", 4: "Crowded", 5: "Long", 6: "Peers", 7: "Misfit", 8: "Full"}
+# ---- records
+
+AS_SIZE = 8
+MAC_SIZE = 6
+INTERFACE_ID_SIZE = 2
+INTERFACE_SIZE = AS_SIZE + INTERFACE_ID_SIZE
+
+# Before the book in every case and in the input of the program that lists.
+ENDS = Record("ENDS", Field("source", AS_SIZE), Field("destination", AS_SIZE))
+
+COUNTS = Record("COUNTS", Field("cores", 2), Field("non-cores", 2), Field("bodies", 4))
+HEAD = Record("HEAD", Field("timestamp", 4), Field("id", 2, "hex"), Field("entry-count", 2), Field("body-length", 2))
+ENTRY = Record("ENTRY", Field("isd-as", AS_SIZE, "isd-as"), Field("mtu", 4), Field("ingress-mtu", 2), Field("ingress", INTERFACE_ID_SIZE),
+               Field("egress", INTERFACE_ID_SIZE), Field("units", 1), Field("mac", MAC_SIZE, "bytes"), Field("peer-count", 1))
+PEER = Record("PEER", Field("isd-as", AS_SIZE, "isd-as"), Field("interface", INTERFACE_ID_SIZE), Field("mtu", 2), Field("units", 1),
+              Field("ingress", INTERFACE_ID_SIZE), Field("egress", INTERFACE_ID_SIZE), Field("mac", MAC_SIZE, "bytes"))
+
+RECORD_HEAD = Record("RECORD", Field("cost", 2), Field("edge-count", 1), Field("zero", 1), size_name="HEAD_SIZE")
+EDGE = Record("EDGE", Field("position", 1), Field("shortcut", 1), Field("peer", 1), Field("direction", 1))
+RECORD_SIZE = RECORD_HEAD.size + MAX_EDGES * EDGE.size
+LIST_SIZE = MAX_SOLUTIONS * RECORD_SIZE
+
+PATH_HEAD = Record("PATH", Field("info-count", 1), Field("hop-count", 1), Field("interface-count", 1), Field("zero", 1), Field("mtu", 2),
+                   Field("expiry", 4), Field("first-as", AS_SIZE), Field("last-as", AS_SIZE), size_name="HEAD_SIZE")
+INFO = Record("INFO", Field("flags", 1), Field("hop-count", 1), Field("id", 2), Field("timestamp", 4))
+HOP = Record("HOP", Field("units", 1), Field("ingress", INTERFACE_ID_SIZE), Field("egress", INTERFACE_ID_SIZE), Field("mac", MAC_SIZE, "bytes"))
+PATH_SIZE = PATH_HEAD.size + MAX_EDGES * INFO.size + MAX_HOPS * HOP.size + MAX_INTERFACES * INTERFACE_SIZE
+
+# Of each entry of a segment, what its fingerprint is worked out of.
+FINGERPRINTED = Record("FINGERPRINTED", ENTRY.of.isd_as, ENTRY.of.ingress, ENTRY.of.egress)
+
+# Flags of an info; the first is the direction of a record's edge too.
+CONSTRUCTION, PEERING = 1, 2
+
+# ---- answers
+
+PATH, LOOP, BARE = range(3)
+REFUSED = 65536         # refusal N is answered as REFUSED + N
+WORDS = dict(enumerate(("Cut", "Surplus", "Oversize", "Crowded", "Long", "Peers", "Misfit", "Full", "Small", "Stranger"), 1))
+CUT, SURPLUS, OVERSIZE, CROWDED, LONG, PEERS, MISFIT, FULL, SMALL, STRANGER = WORDS
+
+
+def constants():
+    """Every name that the header has too, without its COMBINATOR_, and its number."""
+    found = {name: value for name, value in globals().items() if name.isupper() and isinstance(value, int)}
+    found.update({word.upper(): REFUSED + number for number, word in WORDS.items()})
+    for record in (COUNTS, HEAD, ENTRY, PEER, RECORD_HEAD, EDGE, PATH_HEAD, INFO, HOP):
+        found[record.size_name] = record.size
+        for name, place in record.at._asdict().items():
+            found[f"{record.prefix}_{'AS' if name == 'isd_as' else name.upper()}"] = place
+    return found
+
+
+# ---- books
+
+def of_fields(name, fields, *lists):
+    """A class with a field's value in each attribute, and lists, which are empty unless given."""
+    return make_dataclass(name, [(f.attribute, type(f.zero), field(default=f.zero)) for f in fields] +
+                          [(x, list, field(default_factory=list)) for x in lists])
+
+
+# What a book counts is here the length of a list.
+SEGMENT_FIELDS = tuple(f for f in HEAD.fields if f not in (HEAD.of.entry_count, HEAD.of.body_length))
+ENTRY_FIELDS = tuple(f for f in ENTRY.fields if f != ENTRY.of.peer_count)
+PEER_FIELDS = PEER.fields
+
+
+class Peer(of_fields("PeerFields", PEER_FIELDS)):
+    def bytes(self):
+        return PEER.pack_of(self)
+
+
+class Entry(of_fields("EntryFields", ENTRY_FIELDS, "peers")):
+    @property
+    def peer_count(self):
+        return len(self.peers)
+
+    def bytes(self):
+        return ENTRY.pack_of(self) + b"".join(p.bytes() for p in self.peers)
 
 
 @dataclass
-class Peer:
-    isd_as: int
-    interface: int
-    mtu: int
-    units: int
-    ingress: int
-    egress: int
-    mac: int
+class Segment(of_fields("SegmentFields", SEGMENT_FIELDS, "entries")):
+    core: bool = False
+
+    def body(self):
+        return b"".join(e.bytes() for e in self.entries)
 
 
-@dataclass
-class Entry:
-    isd_as: int
-    mtu: int
-    ingress_mtu: int
-    ingress: int
-    egress: int
-    units: int
-    mac: int
-    peers: list = field(default_factory=list)
+def named(made, fields):
+    return {f.attribute: getattr(made, f.attribute) for f in fields}
 
 
-@dataclass
-class Segment:
-    core: bool
-    timestamp: int
-    id: int
-    entries: list = field(default_factory=list)
-
-
-# ---- writing
-
-def packed(record, fields):
-    return b"".join(getattr(record, f.attribute).to_bytes(f.size, "big") for f in fields)
-
-
-def body_of(segment):
-    parts = []
-    for entry in segment.entries:
-        parts.append(packed(entry, ENTRY_FIELDS) + bytes([len(entry.peers)]))
-        parts += [packed(peer, PEER_FIELDS) for peer in entry.peers]
-    return b"".join(parts)
+def book(cores, others):
+    """The bytes of a book of core and of non-core segments."""
+    segments = cores + others
+    bodies = [s.body() for s in segments]
+    heads = [HEAD.pack(**named(s, SEGMENT_FIELDS), entry_count=len(s.entries), body_length=len(b)) for s, b in zip(segments, bodies)]
+    return COUNTS.pack(len(cores), len(others), sum(map(len, bodies))) + b"".join(heads + bodies)
 
 
 def write(segments):
     """The bytes of a book; its core segments stand first."""
-    cores = sum(s.core for s in segments)
-    bodies = [body_of(s) for s in segments]
-    heads = [packed(s, SEGMENT_FIELDS) + len(s.entries).to_bytes(2, "big") + len(body).to_bytes(2, "big")
-             for s, body in zip(segments, bodies)]
-    sizes = cores.to_bytes(2, "big") + (len(segments) - cores).to_bytes(2, "big") + sum(map(len, bodies)).to_bytes(4, "big")
-    return sizes + b"".join(heads) + b"".join(bodies)
+    return book([s for s in segments if s.core], [s for s in segments if not s.core])
 
 
-# ---- reading
-
-def number_at(book, at, size):
-    return int.from_bytes(book[at:at + size], "big")
+def head_place(position):
+    return COUNTS.size + HEAD.size * position
 
 
-@dataclass
-class Refusal:
-    """A refusal with its place: segments by position, entries from 0, as the format counts them."""
-    number: int
-    reason: str
-    position: int = None
-    entry: int = None
-    byte: int = None
-    core: bool = None
-
-    @property
-    def place(self):
-        words = []
-        if self.position is not None:
-            words.append(f"segment {self.position} ({'core' if self.core else 'non-core'})")
-        if self.entry is not None:
-            words.append(f"entry {self.entry}")
-        if self.byte is not None:
-            words.append(f"byte {self.byte}")
-        return ", ".join(words)
-
-    def __str__(self):
-        place = f", at {self.place}" if self.place else ""
-        return f"refused {self.number} ({WORDS[self.number]}){place}: {self.reason}"
-
-
-def counted(number, one, many=None):
-    return f"{number} {one if number == 1 else many or one + 's'}"
-
-
-class Reader:
-    """The sizes and heads of a book, with the places of its bodies. Bytes past the end read as 0."""
-
-    def __init__(self, book):
-        self.book = book
-        self.cores, self.others, self.total = number_at(book, 0, 2), number_at(book, 2, 2), number_at(book, 4, 4)
-        self.count = self.cores + self.others
-        self.bodies = SIZES_SIZE + HEAD_SIZE * self.count
-        self.whole = self.bodies + self.total
-
-    def is_core(self, position):
-        return position < self.cores
-
-    def head(self, position):
-        return SIZES_SIZE + HEAD_SIZE * position
-
-    def entry_count(self, position):
-        return number_at(self.book, self.head(position) + HEAD_SIZE - 4, 2)
-
-    def body_length(self, position):
-        return number_at(self.book, self.head(position) + HEAD_SIZE - 2, 2)
-
-    def body_start(self, position):
-        return self.bodies + sum(map(self.body_length, range(position)))
-
-    def refusal(self, number, reason, position=None, entry=None, byte=None):
-        core = None if position is None else self.is_core(position)
-        return Refusal(number, reason, position, entry, byte, core)
-
-
-def verdict(book):
-    """None for an accepted book, else the refusal that document 01's order of tests finds first."""
-    if len(book) > MAX_BOOK:
-        return Refusal(3, f"the book has {len(book)} bytes, at most {MAX_BOOK} are taken")
-    if len(book) < SIZES_SIZE:
-        return Refusal(1, f"the book has {counted(len(book), 'byte')}, its sizes alone take {SIZES_SIZE}", byte=len(book))
-    r = Reader(book)
-    if r.count > MAX_SEGMENTS:
-        return Refusal(4, f"{r.cores} core and {r.others} non-core segments are {r.count}, at most {MAX_SEGMENTS} are taken")
-    if len(book) < r.whole:
-        return cut(r)
-    if len(book) > r.whole:
-        return Refusal(2, f"{r.cores} core and {r.others} non-core segments with bodies of {counted(r.total, 'byte')} make a book of "
-                          f"{r.whole}, this one has {len(book)}", byte=r.whole)
-    for position in range(r.count):
-        entries = r.entry_count(position)
-        if entries > MAX_ENTRIES:
-            return r.refusal(5, f"its head counts {entries} entries, at most {MAX_ENTRIES} are taken", position, byte=r.head(position))
-    lengths = sum(map(r.body_length, range(r.count)))
-    if lengths != r.total:
-        return Refusal(7, f"the body lengths in the heads sum to {lengths}, the sizes say {r.total}", byte=4)
-    for position in range(r.count):
-        found = body_verdict(r, position)
-        if found:
-            return found
-    return None
-
-
-def body_verdict(r, position):
-    at, entries = r.body_start(position), r.entry_count(position)
-    end = at + r.body_length(position)
-    for entry in range(entries):
-        if end - at < ENTRY_SIZE:
-            return r.refusal(7, f"{counted(end - at, 'byte')} left in the body for an entry of {ENTRY_SIZE} "
-                                f"(its head counts {counted(entries, 'entry', 'entries')})", position, entry, at)
-        peers = r.book[at + ENTRY_SIZE - 1]
-        if peers > MAX_PEERS:
-            return r.refusal(6, f"it counts {peers} peers, at most {MAX_PEERS} are taken", position, entry, at + ENTRY_SIZE - 1)
-        if end - at < ENTRY_SIZE + PEER_SIZE * peers:
-            return r.refusal(7, f"{counted(end - at - ENTRY_SIZE, 'byte')} left in the body for {counted(peers, 'peer')} of {PEER_SIZE}",
-                             position, entry, at + ENTRY_SIZE)
-        at += ENTRY_SIZE + PEER_SIZE * peers
-    if at < end:
-        return r.refusal(7, f"{counted(end - at, 'byte')} left in the body after its {counted(entries, 'entry', 'entries')}", position, byte=at)
-    return None
-
-
-def cut(r):
-    """Answer 1 for a book shorter than its sizes say: in which head, or in which body and entry, it ends."""
-    end = len(r.book)
-    reason = f"{r.cores} core and {r.others} non-core segments with bodies of {counted(r.total, 'byte')} make a book of {r.whole}, this one ends at {end}"
-    if end < r.bodies:
-        return r.refusal(1, f"{reason}, in a head", (end - SIZES_SIZE) // HEAD_SIZE, byte=end)
-    for position in range(r.count):
-        at = r.body_start(position)
-        if end >= at + r.body_length(position):
-            continue
-        for entry in range(r.entry_count(position)):
-            if end < at + ENTRY_SIZE:
-                return r.refusal(1, reason, position, entry, end)
-            at += ENTRY_SIZE + PEER_SIZE * r.book[at + ENTRY_SIZE - 1]
-            if end < at:
-                return r.refusal(1, f"{reason}, in a peer", position, entry, end)
-        return r.refusal(1, reason, position, byte=end)
-    return r.refusal(1, reason, byte=end)
-
-
-def values_at(book, at, fields):
-    values = {}
-    for f in fields:
-        values[f.attribute] = number_at(book, at, f.size)
-        at += f.size
-    return values
-
-
-def read(book):
-    """The segments of an accepted book; BookError for a refused one."""
-    refused = verdict(book)
-    if refused:
-        raise BookError(str(refused))
-    r = Reader(book)
-    segments = []
-    at = r.bodies
-    for position in range(r.count):
-        segment = Segment(r.is_core(position), **values_at(book, r.head(position), SEGMENT_FIELDS))
-        for _ in range(r.entry_count(position)):
-            entry = Entry(**values_at(book, at, ENTRY_FIELDS))
-            peers = book[at + ENTRY_SIZE - 1]
-            at += ENTRY_SIZE
-            for _ in range(peers):
-                entry.peers.append(Peer(**values_at(book, at, PEER_FIELDS)))
-                at += PEER_SIZE
-            segment.entries.append(entry)
+def read(data):
+    """The segments of an accepted book."""
+    counts = COUNTS.unpack(data)
+    count = counts.cores + counts.non_cores
+    at, segments = head_place(count), []
+    for position in range(count):
+        head = HEAD.unpack(data, head_place(position))
+        segment = Segment(**named(head, SEGMENT_FIELDS), core=position < counts.cores)
+        for _ in range(head.entry_count):
+            found = ENTRY.unpack(data, at)
+            at += ENTRY.size
+            peers = [Peer(*PEER.unpack(data, at + PEER.size * k)) for k in range(found.peer_count)]
+            at += PEER.size * found.peer_count
+            segment.entries.append(Entry(**named(found, ENTRY_FIELDS), peers=peers))
         segments.append(segment)
     return segments
+
+
+# ---- records
+
+def solution(cost, *edges):
+    """A solution's record. Edges are (position, shortcut, index of the peer or None, direction)."""
+    out = RECORD_HEAD.pack(cost=cost, edge_count=len(edges))
+    for position, shortcut, peer, direction in edges:
+        out += EDGE.pack(position, shortcut, 0 if peer is None else peer + 1, direction)
+    return out.ljust(RECORD_SIZE, b"\0")
+
+
+def path(mtu, expiry, infos, hops, interfaces):
+    """A path's record. Infos are (flags, hop count, id, timestamp), hops (units, ingress, egress, MAC), interfaces (AS, id)."""
+    head = PATH_HEAD.pack(info_count=len(infos), hop_count=len(hops), interface_count=len(interfaces), mtu=mtu, expiry=expiry,
+                          first_as=interfaces[0][0], last_as=interfaces[-1][0])
+    ases, ids = (b"".join(x[k].to_bytes(size, "big") for x in interfaces) for k, size in ((0, AS_SIZE), (1, INTERFACE_ID_SIZE)))
+    return head + b"".join(INFO.pack(*i) for i in infos) + b"".join(HOP.pack(*h) for h in hops) + ases + ids

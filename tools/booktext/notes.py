@@ -1,6 +1,6 @@
 """What an operator may want to know of a book that is accepted."""
-from . import isd_as
-from .layout import MAX_BOOK, body_of, counted
+from . import counted, isd_as
+from .layout import MAX_BOOK
 
 
 def summary(book, segments):
@@ -21,7 +21,7 @@ def notes(segments):
     found, first, ends = [], {}, peering_ends(segments)
     for position, s in enumerate(segments):
         here = f"segment {position}"
-        equal = first.setdefault((s.core, s.timestamp, s.id, body_of(s)), position)
+        equal = first.setdefault((s.core, s.timestamp, s.id, s.body()), position)
         if equal != position:
             found.append(f"{here} equals segment {equal}: they count once, as segment {equal}")
             continue

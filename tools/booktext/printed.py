@@ -4,16 +4,18 @@ import subprocess
 from dataclasses import dataclass, field
 
 from . import BookError, isd_as, times
-from .layout import WORDS, verdict
+from .layout import CONSTRUCTION, ENDS, FULL, MAX_EDGES, MAX_SOLUTIONS, PEERING, WORDS
+from .refusal import verdict
 
 COUNTS = re.compile(r"solutions ([0-9]+) paths ([0-9]+)")
 REFUSED = re.compile(r"refused ([0-9]+)")
-SOLUTION = re.compile(r"([0-9]+) cost ([0-9]+) segments ([123]) (?:mtu ([0-9]+) expiry ([0-9]+) hops ([0-9]+)|(loop|bare))")
+SOLUTION = re.compile(r"([0-9]+) cost ([0-9]+) segments ([1-%d]) (?:mtu ([0-9]+) expiry ([0-9]+) hops ([0-9]+)|(loop|bare))" % MAX_EDGES)
 INFO = re.compile(r"info ([0-3]) ([0-9a-f]{4}) ([0-9]+)")
 INTERFACE = re.compile(r"if ([0-9a-f]{16}) ([0-9]+)")
 
-DIRECTIONS = {0: "against construction", 1: "in construction direction",
-              2: "against construction, peering", 3: "in construction direction, peering"}
+AGAINST = 0
+DIRECTIONS = {AGAINST: "against construction", CONSTRUCTION: "in construction direction",
+              PEERING: "against construction, peering", CONSTRUCTION + PEERING: "in construction direction, peering"}
 
 
 @dataclass
@@ -30,7 +32,7 @@ class Solution:
 
 def run(program, source, destination, book):
     """What the program prints for this input."""
-    given = source.to_bytes(8, "big") + destination.to_bytes(8, "big") + book
+    given = ENDS.pack(source, destination) + book
     try:
         done = subprocess.run([program], input=given, capture_output=True, timeout=60, check=False)
     except OSError as wrong:
@@ -83,9 +85,8 @@ def refusal_words(number, book):
     found = verdict(book)
     if found and found.number == number:
         return str(found)
-    if number == 8:
-        return "refused 8 (Full): more than 4096 solutions"
-    return f"refused {number} ({WORDS.get(number, 'unknown')})"
+    more = f": more than {MAX_SOLUTIONS} solutions" if number == FULL else ""
+    return f"refused {number} ({WORDS.get(number, 'unknown')}){more}"
 
 
 def added(line, names):

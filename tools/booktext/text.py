@@ -11,9 +11,9 @@ of indent for an entry, four for a peer, no comments.
 """
 import re
 
-from . import BookError, isd_as, times
-from .layout import (ENTRY_FIELDS, ENTRY_SIZE, HEAD_SIZE, MAX_BOOK, MAX_ENTRIES, MAX_PEERS, MAX_SEGMENTS, PEER_FIELDS, PEER_SIZE,
-                     SEGMENT_FIELDS, SIZES_SIZE, WORDS, Entry, Peer, Segment, counted)
+from . import BookError, counted, isd_as, times
+from .layout import (COUNTS, CROWDED, ENTRY, ENTRY_FIELDS, HEAD, LONG, MAX_BOOK, MAX_ENTRIES, MAX_PEERS, MAX_SEGMENTS, OVERSIZE, PEER, PEER_FIELDS,
+                     PEERS, SEGMENT_FIELDS, WORDS, Entry, Peer, Segment)
 
 DIGITS = re.compile(r"[0-9]+")
 COMMENT = re.compile(r"(^|\s)#.*")
@@ -24,6 +24,8 @@ COMMENT = re.compile(r"(^|\s)#.*")
 def value(field, number):
     if field.style == "isd-as":
         return isd_as.written(number)
+    if field.style == "bytes":
+        return number.hex()
     return f"{number:0{2 * field.size}x}" if field.style == "hex" else str(number)
 
 
@@ -57,13 +59,13 @@ def written(segments, notes=False):
 # ---- reading
 
 def number_in(field, word):
-    """The number of a field; ValueError says what is wrong."""
+    """The value of a field; ValueError says what is wrong."""
     if field.style == "isd-as":
         return isd_as.parse(word)
-    if field.style == "hex":
+    if field.style in ("hex", "bytes"):
         if not re.fullmatch(f"[0-9a-fA-F]{{{2 * field.size}}}", word):
             raise ValueError(f"{field.name} is written in {2 * field.size} hex digits, not {word!r}")
-        return int(word, 16)
+        return bytes.fromhex(word) if field.style == "bytes" else int(word, 16)
     if field.name == "timestamp" and "T" in word:
         try:
             number = times.parse(word)
@@ -104,37 +106,37 @@ def values_in(word, fields, words):
 class Parser:
     def __init__(self):
         self.segments = []
-        self.size = SIZES_SIZE
+        self.size = COUNTS.size
 
     def take(self, words):
         """One line's words; ValueError says what is wrong."""
         word, rest = words[0], words[1:]
         if word in ("core", "non-core"):
             self.segment(word == "core", values_in(word, SEGMENT_FIELDS, rest))
-            self.size += HEAD_SIZE
+            self.size += HEAD.size
         elif word == "entry":
             self.entry(values_in(word, ENTRY_FIELDS, rest))
-            self.size += ENTRY_SIZE
+            self.size += ENTRY.size
         elif word == "peer":
             self.peer(values_in(word, PEER_FIELDS, rest))
-            self.size += PEER_SIZE
+            self.size += PEER.size
         else:
             raise ValueError(f"a line begins with core, non-core, entry or peer, not {word!r}")
         if self.size > MAX_BOOK:
-            raise ValueError(limit(3, f"the book has {self.size} bytes up to here, at most {MAX_BOOK} are taken"))
+            raise ValueError(limit(OVERSIZE, f"the book has {self.size} bytes up to here, at most {MAX_BOOK} are taken"))
 
     def segment(self, core, values):
         if core and self.segments and not self.segments[-1].core:
             raise ValueError("a core segment below a non-core one: cores stand first, since positions count them first")
         if len(self.segments) == MAX_SEGMENTS:
-            raise ValueError(limit(4, f"more than {MAX_SEGMENTS} segments"))
-        self.segments.append(Segment(core, **values))
+            raise ValueError(limit(CROWDED, f"more than {MAX_SEGMENTS} segments"))
+        self.segments.append(Segment(**values, core=core))
 
     def entry(self, values):
         if not self.segments:
             raise ValueError("an entry above the first segment")
         if len(self.segments[-1].entries) == MAX_ENTRIES:
-            raise ValueError(limit(5, f"more than {MAX_ENTRIES} entries in segment {len(self.segments) - 1}"))
+            raise ValueError(limit(LONG, f"more than {MAX_ENTRIES} entries in segment {len(self.segments) - 1}"))
         self.segments[-1].entries.append(Entry(**values))
 
     def peer(self, values):
@@ -142,7 +144,7 @@ class Parser:
             raise ValueError("a peer with no entry above it in its segment")
         entries = self.segments[-1].entries
         if len(entries[-1].peers) == MAX_PEERS:
-            raise ValueError(limit(6, f"more than {MAX_PEERS} peers at entry {len(entries) - 1} of segment {len(self.segments) - 1}"))
+            raise ValueError(limit(PEERS, f"more than {MAX_PEERS} peers at entry {len(entries) - 1} of segment {len(self.segments) - 1}"))
         entries[-1].peers.append(Peer(**values))
 
 

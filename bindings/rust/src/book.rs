@@ -1,7 +1,4 @@
-use crate::{HopField, IsdAsn, Refusal, MAX_BOOK, MAX_ENTRIES, MAX_PEERS, MAX_SEGMENTS};
-
-const COUNTS_SIZE: usize = 8;
-const HEAD_SIZE: usize = 10;
+use crate::{layout::*, HopField, IsdAsn, Refusal};
 
 /// An entry of a segment, without its peers.
 #[derive(Clone, Copy, Debug, PartialEq, Eq, Hash)]
@@ -18,7 +15,7 @@ pub struct AsEntry {
 
 impl AsEntry {
     /// The bytes of an entry in a book.
-    pub const SIZE: usize = 26;
+    pub const SIZE: usize = ENTRY_SIZE;
 }
 
 /// A peer of an entry.
@@ -36,7 +33,7 @@ pub struct PeerEntry {
 
 impl PeerEntry {
     /// The bytes of a peer in a book.
-    pub const SIZE: usize = 23;
+    pub const SIZE: usize = PEER_SIZE;
 }
 
 /// Writes a book into a lent buffer: segments with their entries and peers, laid out as the library
@@ -89,8 +86,8 @@ impl<'a> BookWriter<'a> {
         let room = &mut room[..len];
         let heads = room.get_mut(..bodies).ok_or(Refusal::Oversize)?;
         heads.fill(0);
-        heads[0..2].copy_from_slice(&(cores as u16).to_be_bytes());
-        heads[2..4].copy_from_slice(&(non_cores as u16).to_be_bytes());
+        put(heads, COUNTS_CORES, &(cores as u16).to_be_bytes());
+        put(heads, COUNTS_NON_CORES, &(non_cores as u16).to_be_bytes());
         Ok(Self {
             room,
             head: COUNTS_SIZE,
@@ -129,11 +126,14 @@ impl<'a> BookWriter<'a> {
         let end = body.at;
 
         let head = &mut self.room[self.head..][..HEAD_SIZE];
-        head[0..4].copy_from_slice(&timestamp.to_be_bytes());
-        head[4..6].copy_from_slice(&id.to_be_bytes());
-        head[6..8].copy_from_slice(&(count as u16).to_be_bytes());
-        // At most 16 entries with 4 peers each: 1,888 bytes.
-        head[8..10].copy_from_slice(&((end - self.end) as u16).to_be_bytes());
+        put(head, HEAD_TIMESTAMP, &timestamp.to_be_bytes());
+        put(head, HEAD_ID, &id.to_be_bytes());
+        put(head, HEAD_ENTRY_COUNT, &(count as u16).to_be_bytes());
+        put(
+            head,
+            HEAD_BODY_LENGTH,
+            &((end - self.end) as u16).to_be_bytes(),
+        );
         self.head += HEAD_SIZE;
         self.end = end;
         Ok(())
@@ -142,9 +142,17 @@ impl<'a> BookWriter<'a> {
     /// The book.
     pub fn finish(self) -> &'a [u8] {
         let total = (self.end - self.bodies) as u32;
-        self.room[4..8].copy_from_slice(&total.to_be_bytes());
+        put(self.room, COUNTS_BODIES, &total.to_be_bytes());
         &self.room[..self.end]
     }
+}
+
+// The longest body's length fits into its head.
+const _: () = assert!(MAX_ENTRIES * (ENTRY_SIZE + MAX_PEERS * PEER_SIZE) <= u16::MAX as usize);
+
+/// Writes a field of a part at its place.
+fn put(part: &mut [u8], at: usize, field: &[u8]) {
+    part[at..at + field.len()].copy_from_slice(field);
 }
 
 struct Body<'a> {
@@ -158,40 +166,45 @@ impl Body<'_> {
         entry: &AsEntry,
         peers: impl IntoIterator<Item = PeerEntry>,
     ) -> Result<(), Refusal> {
-        self.put(&entry.local.0.to_be_bytes())?;
-        self.put(&entry.mtu.to_be_bytes())?;
-        self.put(&entry.ingress_mtu.to_be_bytes())?;
-        self.put(&entry.hop.ingress.to_be_bytes())?;
-        self.put(&entry.hop.egress.to_be_bytes())?;
-        self.put(&[entry.hop.units])?;
-        self.put(&entry.hop.mac)?;
-        let count_at = self.at;
-        self.put(&[0])?;
+        let at = self.at;
+        let part = self.part(ENTRY_SIZE)?;
+        put(part, ENTRY_AS, &entry.local.0.to_be_bytes());
+        put(part, ENTRY_MTU, &entry.mtu.to_be_bytes());
+        put(part, ENTRY_INGRESS_MTU, &entry.ingress_mtu.to_be_bytes());
+        put(part, ENTRY_INGRESS, &entry.hop.ingress.to_be_bytes());
+        put(part, ENTRY_EGRESS, &entry.hop.egress.to_be_bytes());
+        put(part, ENTRY_UNITS, &[entry.hop.units]);
+        put(part, ENTRY_MAC, &entry.hop.mac);
+        let mut count = 0;
         for peer in peers {
-            if usize::from(self.room[count_at]) == MAX_PEERS {
+            if usize::from(count) == MAX_PEERS {
                 return Err(Refusal::Peers);
             }
-            self.room[count_at] += 1;
+            count += 1;
             self.peer(&peer)?;
         }
+        self.room[at + ENTRY_PEER_COUNT] = count;
         Ok(())
     }
 
     fn peer(&mut self, peer: &PeerEntry) -> Result<(), Refusal> {
-        self.put(&peer.peer.0.to_be_bytes())?;
-        self.put(&peer.interface.to_be_bytes())?;
-        self.put(&peer.mtu.to_be_bytes())?;
-        self.put(&[peer.hop.units])?;
-        self.put(&peer.hop.ingress.to_be_bytes())?;
-        self.put(&peer.hop.egress.to_be_bytes())?;
-        self.put(&peer.hop.mac)
+        let part = self.part(PEER_SIZE)?;
+        put(part, PEER_AS, &peer.peer.0.to_be_bytes());
+        put(part, PEER_INTERFACE, &peer.interface.to_be_bytes());
+        put(part, PEER_MTU, &peer.mtu.to_be_bytes());
+        put(part, PEER_UNITS, &[peer.hop.units]);
+        put(part, PEER_INGRESS, &peer.hop.ingress.to_be_bytes());
+        put(part, PEER_EGRESS, &peer.hop.egress.to_be_bytes());
+        put(part, PEER_MAC, &peer.hop.mac);
+        Ok(())
     }
 
-    fn put(&mut self, bytes: &[u8]) -> Result<(), Refusal> {
-        let end = self.at + bytes.len();
-        let place = self.room.get_mut(self.at..end).ok_or(Refusal::Oversize)?;
-        place.copy_from_slice(bytes);
+    /// The next bytes of the body, set to zero.
+    fn part(&mut self, size: usize) -> Result<&mut [u8], Refusal> {
+        let end = self.at + size;
+        let part = self.room.get_mut(self.at..end).ok_or(Refusal::Oversize)?;
+        part.fill(0);
         self.at = end;
-        Ok(())
+        Ok(part)
     }
 }

@@ -10,6 +10,7 @@
 
 mod book;
 mod isd_asn;
+mod layout;
 mod path;
 mod read;
 mod refusal;
@@ -17,22 +18,13 @@ mod solution;
 
 pub use book::{AsEntry, BookWriter, PeerEntry};
 pub use isd_asn::{IsdAsn, ParseError};
+pub use layout::{
+    LIST_SIZE, MAX_BOOK, MAX_EDGES, MAX_ENTRIES, MAX_HOPS, MAX_INTERFACES, MAX_PEERS, MAX_SEGMENTS,
+    MAX_SOLUTIONS,
+};
 pub use path::{HopField, InfoField, Path, PathInterface, Segment};
 pub use refusal::Refusal;
 pub use solution::{Solution, SolutionEdge, SolutionIter, Solutions};
-
-/// The most bytes of a book.
-pub const MAX_BOOK: usize = 61_440;
-/// The most segments of a book, of both kinds.
-pub const MAX_SEGMENTS: usize = 64;
-/// The most entries of a segment.
-pub const MAX_ENTRIES: usize = 16;
-/// The most peers of an entry.
-pub const MAX_PEERS: usize = 4;
-/// The most solutions that can be listed.
-pub const MAX_SOLUTIONS: usize = 4_096;
-/// The bytes of an output of [`list`] that takes [`MAX_SOLUTIONS`].
-pub const LIST_SIZE: usize = MAX_SOLUTIONS * Solution::SIZE;
 
 mod ffi {
     extern "C" {
@@ -56,15 +48,11 @@ mod ffi {
             out_len: usize,
         ) -> u32;
     }
-
-    pub const PATH: u32 = 0;
-    pub const LOOP: u32 = 1;
-    pub const BARE: u32 = 2;
 }
 
 /// Lists the solutions from `src` to `dst` of a book, the best first.
 ///
-/// There is a slot for each 16 bytes of `out`, but not more than [`MAX_SOLUTIONS`]; with more solutions
+/// There is a slot for each [`Solution::SIZE`] bytes of `out`, but not more than [`MAX_SOLUTIONS`]; with more solutions
 /// than slots the answer is [`Refusal::Full`]. [`LIST_SIZE`] bytes suffice for every book that can be
 /// listed at all, and a shorter output is cheaper, since all of it is set. Where `src` equals `dst` the
 /// list is empty.
@@ -115,8 +103,8 @@ impl<'a> Assembled<'a> {
 
 /// Makes the path of a solution.
 ///
-/// `src`, `dst` and `book` are those of the listing. `solution` is a [`Solution`], or the 16 bytes of
-/// one; other bytes are refused as [`Refusal::Stranger`]. A solution of a list that is too long
+/// `src`, `dst` and `book` are those of the listing. `solution` is a [`Solution`], or the bytes of one;
+/// other bytes are refused as [`Refusal::Stranger`]. A solution of a list that is too long
 /// ([`Refusal::Full`]) is taken too. `out` has at least [`Path::SIZE`] bytes.
 pub fn assemble<'a>(
     src: IsdAsn,
@@ -140,9 +128,9 @@ pub fn assemble<'a>(
         )
     };
     match answer {
-        ffi::PATH => Ok(Assembled::Path(Path::new(out))),
-        ffi::LOOP => Ok(Assembled::Loop),
-        ffi::BARE => Ok(Assembled::Bare),
+        layout::PATH => Ok(Assembled::Path(Path::new(out))),
+        layout::LOOP => Ok(Assembled::Loop),
+        layout::BARE => Ok(Assembled::Bare),
         _ => Err(Refusal::of_answer(answer).expect("an answer that combinator.h names")),
     }
 }

@@ -1,18 +1,10 @@
 use core::fmt::{self, Debug, Display, Formatter};
 
 use crate::{
+    layout::*,
     read::{array, records, u16_at, u32_at, u64_at},
     IsdAsn,
 };
-
-const HEAD_SIZE: usize = 26;
-const INFO_SIZE: usize = 8;
-const HOP_SIZE: usize = 11;
-const AS_SIZE: usize = 8;
-const ID_SIZE: usize = 2;
-
-const CONSTRUCTION: u8 = 1;
-const PEERING: u8 = 2;
 
 /// A path as [`assemble`](crate::assemble) laid it out.
 #[derive(Clone, Copy, PartialEq, Eq)]
@@ -22,38 +14,37 @@ pub struct Path<'a> {
 
 impl<'a> Path<'a> {
     /// The least output of [`assemble`](crate::assemble).
-    pub const SIZE: usize = 1_538;
+    pub const SIZE: usize = PATH_SIZE;
 
     pub(crate) fn new(out: &'a [u8]) -> Self {
-        let counts = out[..3].iter().copied().map(usize::from);
-        let sizes = [INFO_SIZE, HOP_SIZE, AS_SIZE + ID_SIZE];
-        let rest: usize = counts.zip(sizes).map(|(count, size)| count * size).sum();
+        let [infos, hops, interfaces] = counts(out);
+        let rest = INFO_SIZE * infos + HOP_SIZE * hops + INTERFACE_SIZE * interfaces;
         Self {
-            bytes: &out[..HEAD_SIZE + rest],
+            bytes: &out[..PATH_HEAD_SIZE + rest],
         }
     }
 
     /// The MTU.
     pub fn mtu(&self) -> u16 {
-        u16_at(self.bytes, 4)
+        u16_at(self.bytes, PATH_MTU)
     }
 
     /// When the first hop runs out, in the unit of the timestamps: seconds.
     pub fn expiry(&self) -> u32 {
-        u32_at(self.bytes, 6)
+        u32_at(self.bytes, PATH_EXPIRY)
     }
 
     /// The AS of the first interface.
     pub fn first_as(&self) -> IsdAsn {
-        IsdAsn(u64_at(self.bytes, 10))
+        IsdAsn(u64_at(self.bytes, PATH_FIRST_AS))
     }
 
     /// The AS of the last interface.
     pub fn last_as(&self) -> IsdAsn {
-        IsdAsn(u64_at(self.bytes, 18))
+        IsdAsn(u64_at(self.bytes, PATH_LAST_AS))
     }
 
-    /// The infos, one to three.
+    /// The infos, one to [`MAX_EDGES`].
     pub fn infos(
         &self,
     ) -> impl ExactSizeIterator<Item = InfoField> + DoubleEndedIterator + Clone + 'a {
@@ -82,7 +73,7 @@ impl<'a> Path<'a> {
     ) -> impl ExactSizeIterator<Item = PathInterface> + DoubleEndedIterator + Clone + 'a {
         let Parts { ases, ids, .. } = self.parts();
         let ases = records(ases, AS_SIZE, |a| IsdAsn(u64_at(a, 0)));
-        let ids = records(ids, ID_SIZE, |id| u16_at(id, 0));
+        let ids = records(ids, INTERFACE_ID_SIZE, |id| u16_at(id, 0));
         ases.zip(ids)
             .map(|(isd_asn, id)| PathInterface { isd_asn, id })
     }
@@ -93,8 +84,8 @@ impl<'a> Path<'a> {
     }
 
     fn parts(&self) -> Parts<'a> {
-        let [infos, hops, interfaces] = [0, 1, 2].map(|at| usize::from(self.bytes[at]));
-        let (infos, rest) = self.bytes[HEAD_SIZE..].split_at(INFO_SIZE * infos);
+        let [infos, hops, interfaces] = counts(self.bytes);
+        let (infos, rest) = self.bytes[PATH_HEAD_SIZE..].split_at(INFO_SIZE * infos);
         let (hops, rest) = rest.split_at(HOP_SIZE * hops);
         let (ases, ids) = rest.split_at(AS_SIZE * interfaces);
         Parts {
@@ -104,6 +95,11 @@ impl<'a> Path<'a> {
             ids,
         }
     }
+}
+
+/// How many infos, hops and interfaces there are.
+fn counts(path: &[u8]) -> [usize; 3] {
+    [PATH_INFO_COUNT, PATH_HOP_COUNT, PATH_INTERFACE_COUNT].map(|at| usize::from(path[at]))
 }
 
 struct Parts<'a> {
@@ -181,15 +177,15 @@ pub struct InfoField {
 impl InfoField {
     fn read(info: &[u8]) -> Self {
         Self {
-            construction: info[0] & CONSTRUCTION != 0,
-            peering: info[0] & PEERING != 0,
-            hops: info[1],
-            id: u16_at(info, 2),
-            timestamp: u32_at(info, 4),
+            construction: info[INFO_FLAGS] & CONSTRUCTION != 0,
+            peering: info[INFO_FLAGS] & PEERING != 0,
+            hops: info[INFO_HOP_COUNT],
+            id: u16_at(info, INFO_ID),
+            timestamp: u32_at(info, INFO_TIMESTAMP),
         }
     }
 
-    /// The flags as the wire has them: construction direction 1, peering 2.
+    /// The flags as the wire has them: one for construction direction, one for peering.
     pub const fn flags(&self) -> u8 {
         (self.construction as u8 * CONSTRUCTION) | (self.peering as u8 * PEERING)
     }
@@ -205,16 +201,16 @@ pub struct HopField {
     /// The interface at which it is left, in construction direction.
     pub egress: u16,
     /// The MAC.
-    pub mac: [u8; 6],
+    pub mac: [u8; MAC_SIZE],
 }
 
 impl HopField {
     fn read(hop: &[u8]) -> Self {
         Self {
-            units: hop[0],
-            ingress: u16_at(hop, 1),
-            egress: u16_at(hop, 3),
-            mac: array(hop, 5),
+            units: hop[HOP_UNITS],
+            ingress: u16_at(hop, HOP_INGRESS),
+            egress: u16_at(hop, HOP_EGRESS),
+            mac: array(hop, HOP_MAC),
         }
     }
 }

@@ -1,3 +1,4 @@
+use crate::layout::*;
 use core::{
     error::Error,
     fmt::{self, Display, Formatter},
@@ -11,9 +12,9 @@ use core::{
 #[repr(u8)]
 #[non_exhaustive]
 pub enum Refusal {
-    /// The book is under 8 bytes, or shorter than its sizes say.
+    /// The book is shorter than its counts, or than they say.
     Cut = 1,
-    /// The book is longer than its sizes say.
+    /// The book is longer than its counts say.
     Surplus = 2,
     /// The book is above [`MAX_BOOK`](crate::MAX_BOOK) bytes.
     Oversize = 3,
@@ -32,9 +33,6 @@ pub enum Refusal {
     /// Assembly: no solution of this book, source and destination.
     Stranger = 10,
 }
-
-/// In the library's answers a refusal stands this far up.
-const REFUSED: u32 = 65_536;
 
 impl Refusal {
     /// All refusals, by number.
@@ -78,18 +76,24 @@ impl Refusal {
         }
     }
 
-    const fn meaning(self) -> &'static str {
+    /// What it says, with the limit that it is about.
+    fn write_meaning(self, f: &mut Formatter<'_>) -> fmt::Result {
         match self {
-            Self::Cut => "the book is under 8 bytes, or shorter than its sizes say",
-            Self::Surplus => "the book is longer than its sizes say",
-            Self::Oversize => "the book is above 61440 bytes",
-            Self::Crowded => "the book has more than 64 segments",
-            Self::Long => "a segment has more than 16 entries",
-            Self::Peers => "an entry has more than 4 peers",
-            Self::Misfit => "body lengths do not sum to the total, or a body is not filled exactly",
-            Self::Full => "there are more solutions than slots",
-            Self::Small => "the output is under 1538 bytes",
-            Self::Stranger => "no solution of this book, source and destination",
+            Self::Cut => write!(
+                f,
+                "the book is under {COUNTS_SIZE} bytes, or shorter than its sizes say"
+            ),
+            Self::Surplus => f.write_str("the book is longer than its sizes say"),
+            Self::Oversize => write!(f, "the book is above {MAX_BOOK} bytes"),
+            Self::Crowded => write!(f, "the book has more than {MAX_SEGMENTS} segments"),
+            Self::Long => write!(f, "a segment has more than {MAX_ENTRIES} entries"),
+            Self::Peers => write!(f, "an entry has more than {MAX_PEERS} peers"),
+            Self::Misfit => {
+                f.write_str("body lengths do not sum to the total, or a body is not filled exactly")
+            }
+            Self::Full => f.write_str("there are more solutions than slots"),
+            Self::Small => write!(f, "the output is under {PATH_SIZE} bytes"),
+            Self::Stranger => f.write_str("no solution of this book, source and destination"),
         }
     }
 
@@ -104,13 +108,8 @@ impl Refusal {
 /// For instance `refused 1 Cut: the book is under 8 bytes, or shorter than its sizes say`.
 impl Display for Refusal {
     fn fmt(&self, f: &mut Formatter<'_>) -> fmt::Result {
-        write!(
-            f,
-            "refused {} {}: {}",
-            self.number(),
-            self.word(),
-            self.meaning()
-        )
+        write!(f, "refused {} {}: ", self.number(), self.word())?;
+        self.write_meaning(f)
     }
 }
 

@@ -3,7 +3,10 @@ use core::{
     iter::FusedIterator,
 };
 
-use crate::read::{array, records, u16_at, Records};
+use crate::{
+    layout::*,
+    read::{array, records, u16_at, Records},
+};
 
 /// The solutions that [`list`](crate::list) found, the best first.
 #[derive(Clone, Copy, PartialEq, Eq)]
@@ -38,7 +41,7 @@ impl<'a> Solutions<'a> {
         SolutionIter(records(self.records, Solution::SIZE, Solution::read))
     }
 
-    /// The records, 16 bytes each.
+    /// The records, [`Solution::SIZE`] bytes each.
     pub fn as_bytes(&self) -> &'a [u8] {
         self.records
     }
@@ -98,7 +101,7 @@ impl ExactSizeIterator for SolutionIter<'_> {}
 
 impl FusedIterator for SolutionIter<'_> {}
 
-/// A way to join segments of a book into a path: its record of 16 bytes.
+/// A way to join segments of a book into a path: its record.
 ///
 /// It says something only together with the book, source and destination that it was listed for.
 #[derive(Clone, Copy, PartialEq, Eq, Hash)]
@@ -106,9 +109,7 @@ pub struct Solution([u8; Solution::SIZE]);
 
 impl Solution {
     /// The bytes of a record.
-    pub const SIZE: usize = 16;
-
-    const MAX_EDGES: usize = 3;
+    pub const SIZE: usize = RECORD_SIZE;
 
     fn read(record: &[u8]) -> Self {
         Self(array(record, 0))
@@ -116,16 +117,16 @@ impl Solution {
 
     /// The sum of the edges' weights: the count of links.
     pub fn cost(&self) -> u16 {
-        u16_at(&self.0, 0)
+        u16_at(&self.0, RECORD_COST)
     }
 
-    /// The uses of segments in turn, one to three.
+    /// The uses of segments in turn, one to [`MAX_EDGES`].
     pub fn edges(
         &self,
     ) -> impl ExactSizeIterator<Item = SolutionEdge> + DoubleEndedIterator + Clone {
         let record = self.0;
-        let count = usize::from(record[2]).min(Self::MAX_EDGES);
-        (0..count).map(move |i| SolutionEdge::read(&record[4 + 4 * i..]))
+        let count = usize::from(record[RECORD_EDGE_COUNT]).min(MAX_EDGES);
+        (0..count).map(move |i| SolutionEdge::read(&record[RECORD_HEAD_SIZE + EDGE_SIZE * i..]))
     }
 
     /// The record.
@@ -179,10 +180,10 @@ pub struct SolutionEdge {
 impl SolutionEdge {
     fn read(edge: &[u8]) -> Self {
         Self {
-            position: edge[0],
-            shortcut: edge[1],
-            peer: edge[2].checked_sub(1),
-            construction: edge[3] == 1,
+            position: edge[EDGE_POSITION],
+            shortcut: edge[EDGE_SHORTCUT],
+            peer: edge[EDGE_PEER].checked_sub(1),
+            construction: edge[EDGE_DIRECTION] == CONSTRUCTION,
         }
     }
 }

@@ -1,10 +1,11 @@
 //! The writer of books.
 
 use combinator::{
-    list, AsEntry, BookWriter, HopField, IsdAsn, PeerEntry, Refusal, LIST_SIZE, MAX_BOOK,
+    list, AsEntry, BookWriter, HopField, IsdAsn, PeerEntry, Refusal, Solution, LIST_SIZE, MAX_BOOK,
+    MAX_ENTRIES, MAX_PEERS, MAX_SEGMENTS,
 };
 
-use crate::{file, Reader};
+use crate::{file, Reader, AS_SIZE, MAC_SIZE};
 
 type Entries = Vec<(AsEntry, Vec<PeerEntry>)>;
 
@@ -25,7 +26,7 @@ fn decode(book: &[u8]) -> (usize, Vec<(u32, u16, Entries)>) {
 }
 
 fn entry(r: &mut Reader) -> (AsEntry, Vec<PeerEntry>) {
-    let (local, mtu, ingress_mtu) = (IsdAsn(r.number(8)), r.u32(), r.u16());
+    let (local, mtu, ingress_mtu) = (IsdAsn(r.number(AS_SIZE)), r.u32(), r.u16());
     let (ingress, egress, units) = (r.u16(), r.u16(), r.u8());
     let hop = HopField {
         units,
@@ -45,7 +46,7 @@ fn entry(r: &mut Reader) -> (AsEntry, Vec<PeerEntry>) {
 
 fn peer(r: &mut Reader) -> PeerEntry {
     PeerEntry {
-        peer: IsdAsn(r.number(8)),
+        peer: IsdAsn(r.number(AS_SIZE)),
         interface: r.u16(),
         mtu: r.u16(),
         hop: HopField {
@@ -82,10 +83,10 @@ fn books_come_back() {
     let mut r = Reader(&stored);
     while !r.0.is_empty() {
         let len = r.len(4);
-        let book = &r.take(len)[16..];
+        let book = &r.take(len)[2 * AS_SIZE..];
         assert_eq!(rewrite(book, &mut room), Ok(book));
         let solutions = r.len(2);
-        r.take(16 * solutions);
+        r.take(Solution::SIZE * solutions);
         for _ in 0..solutions {
             r.take(1);
             let len = r.len(2);
@@ -112,35 +113,54 @@ fn some_peer() -> PeerEntry {
             units: 63,
             ingress: 4,
             egress: 5,
-            mac: [6; 6],
+            mac: [6; MAC_SIZE],
         },
     }
+}
+
+/// The bytes of a book of so many segments without entries.
+fn empty(segments: usize) -> usize {
+    let mut room = vec![0; MAX_BOOK];
+    BookWriter::new(&mut room, 0, segments)
+        .unwrap()
+        .finish()
+        .len()
 }
 
 #[test]
 fn limits() {
     let mut room = vec![0; 2 * MAX_BOOK];
-    for (cores, non_cores) in [(65, 0), (0, 65), (32, 33), (usize::MAX, usize::MAX)] {
+    let (many, half) = (MAX_SEGMENTS + 1, MAX_SEGMENTS / 2);
+    for (cores, non_cores) in [
+        (many, 0),
+        (0, many),
+        (half, many - half),
+        (usize::MAX, usize::MAX),
+    ] {
         let refused = BookWriter::new(&mut room, cores, non_cores).err();
         assert_eq!(refused, Some(Refusal::Crowded));
     }
     assert!(matches!(
-        BookWriter::new(&mut [0; 7], 0, 0),
+        BookWriter::new(&mut vec![0; empty(0) - 1], 0, 0),
         Err(Refusal::Oversize)
     ));
 
     let mut book = BookWriter::new(&mut room, 0, 3).unwrap();
     let entry = |peers| (some_entry(), vec![some_peer(); peers]);
-    assert_eq!(book.segment(1, 2, vec![entry(0); 17]), Err(Refusal::Long));
-    assert_eq!(book.segment(1, 2, vec![entry(5)]), Err(Refusal::Peers));
-    assert_eq!(book.segment(1, 2, vec![entry(4); 16]), Ok(()));
+    let long = vec![entry(0); MAX_ENTRIES + 1];
+    assert_eq!(book.segment(1, 2, long), Err(Refusal::Long));
+    let peers = vec![entry(MAX_PEERS + 1)];
+    assert_eq!(book.segment(1, 2, peers), Err(Refusal::Peers));
+    let full = vec![entry(MAX_PEERS); MAX_ENTRIES];
+    assert_eq!(book.segment(1, 2, full.clone()), Ok(()));
     assert_eq!(book.segment(1, 3, Entries::new()), Ok(()));
     // The third is left without entries.
     let book = book.finish();
-    assert_eq!(book.len(), 8 + 30 + 16 * (26 + 4 * 23));
+    let body = MAX_ENTRIES * (AsEntry::SIZE + MAX_PEERS * PeerEntry::SIZE);
+    assert_eq!(book.len(), empty(3) + body);
     let (_, segments) = decode(book);
     let counts: Vec<_> = segments.iter().map(|s| s.2.len()).collect();
-    assert_eq!(counts, [16, 0, 0]);
+    assert_eq!(counts, [MAX_ENTRIES, 0, 0]);
     let mut slots = vec![0; LIST_SIZE];
     assert!(list(IsdAsn(1), IsdAsn(9), book, &mut slots).is_ok());
 
@@ -151,15 +171,14 @@ fn limits() {
         Err(Refusal::Crowded)
     );
 
-    // 61,440 bytes are too few for 64 full segments, however long the room.
-    let mut book = BookWriter::new(&mut room, 0, 64).unwrap();
+    // A book's bytes are too few for all segments to be full, however long the room.
+    let mut book = BookWriter::new(&mut room, 0, MAX_SEGMENTS).unwrap();
     let mut written = 0;
-    while book.segment(1, 2, vec![entry(4); 16]) == Ok(()) {
+    while book.segment(1, 2, full.clone()) == Ok(()) {
         written += 1;
     }
-    let body = 16 * (26 + 4 * 23);
-    assert_eq!(written, (MAX_BOOK - 648) / body);
+    assert_eq!(written, (MAX_BOOK - empty(MAX_SEGMENTS)) / body);
     let book = book.finish();
-    assert_eq!(book.len(), 648 + written * body);
+    assert_eq!(book.len(), empty(MAX_SEGMENTS) + written * body);
     assert!(list(IsdAsn(7), IsdAsn(9), book, &mut slots).is_ok());
 }

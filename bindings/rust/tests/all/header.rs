@@ -1,36 +1,12 @@
-//! Numbers and words that stand in include/combinator.h too.
+//! Numbers and words of refusals, which stand in include/combinator.h too. Sizes, places and limits are
+//! held to it by tests/layout of the repository.
 
-use combinator::{
-    AsEntry, Path, PeerEntry, Refusal, Solution, LIST_SIZE, MAX_BOOK, MAX_ENTRIES, MAX_PEERS,
-    MAX_SEGMENTS, MAX_SOLUTIONS,
-};
+use combinator::Refusal;
 
 use crate::file;
 
 fn header() -> String {
     String::from_utf8(file("include/combinator.h")).unwrap()
-}
-
-#[test]
-fn sizes_and_limits() {
-    let header = header();
-    for (name, want) in [
-        ("RECORD_SIZE", Solution::SIZE),
-        ("PATH_SIZE", Path::SIZE),
-        ("MAX_SOLUTIONS", MAX_SOLUTIONS),
-        ("LIST_SIZE", LIST_SIZE),
-        ("MAX_BOOK", MAX_BOOK),
-        ("MAX_SEGMENTS", MAX_SEGMENTS),
-        ("MAX_ENTRIES", MAX_ENTRIES),
-        ("MAX_PEERS", MAX_PEERS),
-        ("ENTRY_SIZE", AsEntry::SIZE),
-        ("PEER_SIZE", PeerEntry::SIZE),
-    ] {
-        let define = format!("#define COMBINATOR_{name} ");
-        let line = header.lines().find(|l| l.starts_with(&define)).unwrap();
-        let number = line[define.len()..].split(' ').next().unwrap();
-        assert_eq!(number.parse(), Ok(want), "{name}");
-    }
 }
 
 #[test]

@@ -8,6 +8,10 @@ mod text;
 
 use std::path::PathBuf;
 
+/// The bytes of an ISD-AS, and of a MAC.
+const AS_SIZE: usize = 8;
+const MAC_SIZE: usize = 6;
+
 /// A file of the repository.
 fn file(name: &str) -> Vec<u8> {
     let path = PathBuf::from(env!("CARGO_MANIFEST_DIR"))
@@ -48,7 +52,7 @@ impl<'a> Reader<'a> {
         self.number(size) as usize
     }
 
-    fn mac(&mut self) -> [u8; 6] {
-        self.take(6).try_into().unwrap()
+    fn mac(&mut self) -> [u8; MAC_SIZE] {
+        self.take(MAC_SIZE).try_into().unwrap()
     }
 }

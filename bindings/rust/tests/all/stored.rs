@@ -1,8 +1,10 @@
 //! The files of tests/stored: answers of the Rust, and refusals.
 
-use combinator::{assemble, list, Assembled, IsdAsn, Path, Refusal, Solution, LIST_SIZE};
+use combinator::{
+    assemble, list, Assembled, IsdAsn, Path, Refusal, Solution, LIST_SIZE, MAX_EDGES,
+};
 
-use crate::{file, Reader};
+use crate::{file, Reader, AS_SIZE};
 
 struct Input<'a> {
     src: IsdAsn,
@@ -14,8 +16,8 @@ fn input<'a>(r: &mut Reader<'a>) -> Input<'a> {
     let len = r.len(4);
     let mut r = Reader(r.take(len));
     Input {
-        src: IsdAsn(r.number(8)),
-        dst: IsdAsn(r.number(8)),
+        src: IsdAsn(r.number(AS_SIZE)),
+        dst: IsdAsn(r.number(AS_SIZE)),
         book: r.0,
     }
 }
@@ -154,7 +156,13 @@ fn empty_slices() {
         Err(Refusal::Stranger)
     );
     assert_eq!(
-        assemble(src, dst, &book, Solution::from([0xff; 16]), &mut room),
+        assemble(
+            src,
+            dst,
+            &book,
+            Solution::from([0xff; Solution::SIZE]),
+            &mut room
+        ),
         Err(Refusal::Stranger)
     );
 }
@@ -162,8 +170,8 @@ fn empty_slices() {
 /// Records of any bytes can be looked at.
 #[test]
 fn any_record_is_read() {
-    let solution = Solution::from([0xff; 16]);
+    let solution = Solution::from([0xff; Solution::SIZE]);
     assert_eq!(solution.cost(), u16::MAX);
-    assert_eq!(solution.edges().len(), 3);
+    assert_eq!(solution.edges().len(), MAX_EDGES);
     assert!(solution.edges().all(|e| e.peer == Some(254)));
 }

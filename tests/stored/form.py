@@ -1,0 +1,75 @@
+"""The forms of answers.bin, refusals.bin and of what the program that replays them reads (README.md)."""
+import os
+import sys
+
+HERE = os.path.dirname(os.path.abspath(__file__))
+sys.path[:0] = [os.path.join(HERE, "..", "..", "tools"), os.path.join(HERE, "..", "..", "oracle")]
+from batch import FRONT, framed  # noqa: E402
+from booktext.layout import ENDS, RECORD_SIZE, Field, Record  # noqa: E402
+
+LABEL, ANSWERED, CALLED = range(3)      # tags of the items that the program reads
+LISTING, ASSEMBLY = range(2)            # the call of a case of refusals.bin
+
+COUNT = Record("COUNT", Field("solutions", 2))
+OUTCOME = Record("OUTCOME", Field("answer", 1), Field("length", 2))
+CALL = Record("CALL", Field("call", 1), Field("room", 4), Field("length", 2))
+REFUSAL = Record("REFUSAL", Field("number", 1))
+
+
+def given(src, dst, book):
+    return ENDS.pack(src, dst) + book
+
+
+def answered(case, solutions):
+    """A case of answers.bin. Solutions are (record, assembly's answer, bytes of the path), in order."""
+    out = framed(case) + COUNT.pack(len(solutions)) + b"".join(record for record, _, _ in solutions)
+    return out + b"".join(OUTCOME.pack(answer, len(path)) + path for _, answer, path in solutions)
+
+
+def called(case, call, room, record, number):
+    """A case of refusals.bin; the number is 0 where the call is not refused."""
+    return framed(case) + CALL.pack(call, room, len(record)) + record + REFUSAL.pack(number)
+
+
+class Reader:
+    """The cases of a file of this folder, one after the other."""
+
+    def __init__(self, name):
+        with open(os.path.join(HERE, name), "rb") as f:
+            self.data, self.at = f.read(), 0
+
+    def take(self, n):
+        assert self.at + n <= len(self.data), "a case breaks off"
+        self.at += n
+        return self.data[self.at - n:self.at]
+
+    def next(self, record):
+        return record.unpack(self.take(record.size))
+
+    def cases(self, rest):
+        """The bytes of every case; `rest` reads what follows its input."""
+        while self.at < len(self.data):
+            start = self.at
+            self.take(int.from_bytes(self.take(FRONT), "big"))
+            rest(self)
+            yield self.data[start:self.at]
+
+
+def answered_rest(r):
+    count = r.next(COUNT).solutions
+    r.take(RECORD_SIZE * count)
+    for _ in range(count):
+        r.take(r.next(OUTCOME).length)
+
+
+def called_rest(r):
+    r.take(r.next(CALL).length)
+    r.next(REFUSAL)
+
+
+def answers():
+    return list(Reader("answers.bin").cases(answered_rest))
+
+
+def refusals():
+    return list(Reader("refusals.bin").cases(called_rest))
