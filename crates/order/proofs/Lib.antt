@@ -1,6 +1,6 @@
 -- Laws that belong to no one function.
 pub mod Sorting
-pub mod Bytes
+pub mod Copying
 pub mod Slots
 pub mod Merging
 pub mod Ordered
