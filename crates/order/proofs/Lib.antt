@@ -6,11 +6,11 @@ pub mod Merging
 pub mod Ordered
 pub mod Comparing
 pub mod Words
-pub mod Keys
+pub mod RecordOrder
 pub mod Caching
-pub mod OneRoute
+pub mod Reissued
 pub mod Chains
 pub mod Coding
-pub mod KeyLaws
+pub mod KeyOrder
 pub mod KeyForms
 pub mod Ranking
