@@ -1,16 +1,16 @@
 -- Laws that belong to no one function.
 pub mod Sorting
-pub mod Bytes
+pub mod Copying
 pub mod Slots
 pub mod Merging
 pub mod Ordered
 pub mod Comparing
 pub mod Words
-pub mod Keys
+pub mod RecordOrder
 pub mod Caching
-pub mod OneRoute
+pub mod Reissued
 pub mod Chains
 pub mod Coding
-pub mod KeyLaws
+pub mod KeyOrder
 pub mod KeyForms
 pub mod Ranking
