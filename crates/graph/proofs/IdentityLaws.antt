@@ -23,12 +23,12 @@ use Rattle.spec.specs.Order.{solutionEdge}
 use Rattle.spec.proofs.Membership.{and-true, not-both, filter-mem, mem-filter, flatMap-mem, once-filter}
 use Rattle.spec.proofs.Vertices.{sameVertex-eq, sameVertex-refl}
 use Rattle.spec.proofs.OnceLaws.{lasting-mem, once-lasting, inserted}
-use Rattle.graph.specs.declared.Found.{Found}
-use Rattle.graph.specs.declared.Found.the-variants.{Edge as FoundEdge, Nothing}
+use Rattle.graph.specs.declared.edges.Found.{Found}
+use Rattle.graph.specs.declared.edges.Found.the-variants.{Edge as FoundEdge, Nothing}
 use Rattle.graph.specs.Lookup.{between, foundEdges}
 use Rattle.graph.specs.Leaving.{entryCount, peerCountOf, linkOf, asStands, peerUp}
 use Rattle.graph.specs.Scan.{entryWith, asEdgeAt}
-use Rattle.graph.specs.declared.edges.Link.{Link}
+use Rattle.graph.specs.declared.vertices.Link.{Link}
 use Rattle.graph.specs.Link.{endOf, farEndOf}
 use Rattle.graph.specs.Identity.{sameIdentity, hasIdentity, identified, farLinkOf, peerNamed}
 use Rattle.graph.proofs.LookupLaws.{as-not-peering, one-is, stored-between, between-stored, as-other, as-leaf, peer-two, entry-parts, insertions-other, insertions-core, core-none, up-as, down-as}

@@ -16,7 +16,7 @@ use Rattle.spec.specs.Book.{Segment, segmentAt}
 use Rattle.spec.specs.Edges.{sameAs, leafAs, inConstruction}
 use Rattle.spec.proofs.Membership.{not-both}
 use Rattle.spec.proofs.Vertices.{sameAs-eq}
-use Rattle.graph.specs.declared.edges.Link.{Link}
+use Rattle.graph.specs.declared.vertices.Link.{Link}
 use Rattle.graph.specs.declared.edges.Joint.{Joint}
 use Rattle.graph.specs.Lookup.{between}
 use Rattle.graph.specs.Leaving.{entryCount, isEntryOf}

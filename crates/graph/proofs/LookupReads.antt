@@ -29,7 +29,7 @@ use Rattle.spec.proofs.BodyLaws.{body-end, entry-place, peer-place}
 use Rattle.book.specs.Offsets.{openTable}
 use Rattle.segment.proofs.Fitting.{position-small}
 use Rattle.book.proofs.Tables.{open-accepted, table-at, table-as, table-peers, table-peer}
-use Rattle.graph.specs.declared.edges.Link.{Link}
+use Rattle.graph.specs.declared.vertices.Link.{Link}
 use Rattle.spec.specs.Chains.{leaves}
 use Rattle.graph.specs.Lookup.{hasEnds, between, leavingOf}
 use Rattle.graph.specs.Leaving.{entryCount, peerCountOf, linkOf, isEntryOf, asStands, isLink, hasLink, peerStands, asUp, peerUp}

@@ -22,8 +22,8 @@ use Rattle.spec.specs.Records.{bit, noEdge, recordEdge}
 use Rattle.graph.specs.declared.chains.Way.{Way}
 use Rattle.graph.specs.declared.Chain.{Chain}
 use Rattle.graph.specs.declared.Chain.the-variants.{Refused}
-use Rattle.graph.specs.declared.Found.{Found}
-use Rattle.graph.specs.declared.Found.the-variants.{Edge as FoundEdge, Nothing}
+use Rattle.graph.specs.declared.edges.Found.{Found}
+use Rattle.graph.specs.declared.edges.Found.the-variants.{Edge as FoundEdge, Nothing}
 use Rattle.graph.specs.Lookup.{foundEdges}
 use Rattle.graph.specs.Identity.{identifiedIn}
 use Rattle.graph.specs.Pushed.{recordOctets}

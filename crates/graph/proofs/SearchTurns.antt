@@ -16,8 +16,8 @@ use Rattle.spec.specs.Basics.{if_then_else_, range}
 use Rattle.spec.specs.Book.{Segment, segments, segmentAt, segmentCount, cores}
 use Rattle.spec.specs.Edges.{sameAs, sameVertex, asOf, leafAs, edgeOf, isFirst}
 use Rattle.spec.specs.Records.{bit}
-use Rattle.graph.specs.declared.Found.{Found}
-use Rattle.graph.specs.declared.Found.the-variants.{Edge as FoundEdge, Nothing}
+use Rattle.graph.specs.declared.edges.Found.{Found}
+use Rattle.graph.specs.declared.edges.Found.the-variants.{Edge as FoundEdge, Nothing}
 use Rattle.graph.specs.Lookup.{between, leavingOf, foundEdges}
 use Rattle.graph.specs.Leaving.{entryCount, peerCountOf, asUp, peerUp, upsAt, leavingIn}
 use Rattle.graph.specs.Scan.{hasAs, coreEdgeFrom}

@@ -11,8 +11,8 @@ ghost use Rattle.spec.specs.Edges.{isFirst, sameSegment};
 ghost use Rattle.graph.specs.Leaving.{entryCount};
 ghost use Rattle.graph.specs.Ready.{Ready};
 ghost use Rattle.graph.specs.Alike.{headWordAt, lastWordAt};
-use crate::edges;
-use crate::edges::PLACES;
+use crate::opened;
+use book::PLACES;
 use spec::Head;
 use spec::Limits;
 use spec::Sizes;
@@ -23,7 +23,7 @@ fn head_word(book: &[u8], k: usize) -> u64
     requires { ⌜ k < segmentCount (now book) ⌝ }
     ensures { λ r. ⌜ r ≡ headWordAt (now (book .entry)) k ⌝ }
 {
-    edges::word_within(book, Sizes::SIZE + Head::SIZE * k)
+    opened::word_within(book, Sizes::SIZE + Head::SIZE * k)
 }
 
 // Where the last bytes of an entry before its peers' number stand, past its start: of its egress, units and MAC.
@@ -36,7 +36,7 @@ fn last_word(book: &[u8], table: &[u16; PLACES], k: usize) -> u64
     requires { ⌜ entrySize ≤ length (now book) ⌝ }
     ensures { λ r. ⌜ r ≡ lastWordAt (now (book .entry)) (now (table .entry)) k ⌝ }
 {
-    edges::word_within(book, edges::wide(table[Limits::ENTRIES * k]) + LAST)
+    opened::word_within(book, opened::wide(table[Limits::ENTRIES * k]) + LAST)
 }
 
 // From a position on, the first below `end` that has both numbers, or `end`.
@@ -70,7 +70,7 @@ fn kind_start(book: &[u8], k: u8) -> usize
     requires { ⌜ verdict (now book) ≡ Accepted ⌝ }
     ensures { λ r. ⌜ (r ≤ k) × ((i : ℕ) → i < r → sameSegment (segmentAt (now (book .entry)) k) (segmentAt (now (book .entry)) i) ≡ false) ⌝ }
 {
-    let cores = edges::wide(edges::sizes_within(book).cores);
+    let cores = opened::wide(opened::sizes_within(book).cores);
     if (k as usize) < cores {
         return 0;
     }

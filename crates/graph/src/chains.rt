@@ -13,11 +13,12 @@ ghost use Rattle.graph.specs.Ready.{Ready};
 ghost use Rattle.graph.specs.Recorded.{chainIn, recorded, recordedChains};
 ghost use Rattle.graph.specs.Named.{Short, begun, goesOn, pastEdge, kindsAllowed, ownEdge, ownSolution, hasArrived, completed};
 use crate::Chain;
-use crate::Found;
 use crate::alike;
-use crate::edges;
+use crate::edges::Found;
 use crate::named;
+use crate::opened;
 use crate::slots;
+use crate::vertices;
 use book::PLACES;
 use spec::Edge;
 use spec::IsdAsn;
@@ -53,10 +54,10 @@ fn same_words(a: &[u8], b: &[u8]) -> bool
     requires { ⌜ length (now b) ≡ solutionSize ⌝ }
     ensures { λ r. ⌜ r ≡ sameList (now (a .entry)) (now (b .entry)) ⌝ }
 {
-    if edges::word_within(a, 0) != edges::word_within(b, 0) {
+    if opened::word_within(a, 0) != opened::word_within(b, 0) {
         return false;
     }
-    edges::word_within(a, 8) == edges::word_within(b, 8)
+    opened::word_within(a, 8) == opened::word_within(b, 8)
 }
 
 // The record is that of a solution.
@@ -73,11 +74,11 @@ fn edge_of(book: &[u8], table: &[u16; PLACES], id: SolutionEdge) -> Found
     requires { ⌜ Ready (now book) (now table) ⌝ }
     ensures { λ r. ⌜ foundEdges r ≡ identifiedIn (now (book .entry)) id ⌝ }
 {
-    let sizes = edges::sizes_within(book);
+    let sizes = opened::sizes_within(book);
     if sizes.cores + sizes.others <= (id.position as u16) {
         return Found::Nothing;
     }
-    if edges::count_of(book, id.position) == 0 {
+    if opened::count_of(book, id.position) == 0 {
         return Found::Nothing;
     }
     if !alike::is_first(book, table, id.position) {
@@ -101,11 +102,11 @@ fn goes_on(dst: IsdAsn, way: Way, e: Edge) -> bool
     ensures { λ r. ⌜ r ≡ goesOn dst way e ⌝ }
 {
     let at = way.at;
-    if edges::same_vertex(at, Vertex::AS(dst)) {
+    if vertices::same_vertex(at, Vertex::AS(dst)) {
         return false;
     }
     let from = e.src;
-    edges::same_vertex(from, at)
+    vertices::same_vertex(from, at)
 }
 
 // The way one edge further.
@@ -169,7 +170,7 @@ fn arrives(dst: IsdAsn, given: &[u8], count: u8, way: Way) -> bool
     ensures { λ r. ⌜ r ≡ hasArrived dst (now (given .entry)) count way ⌝ }
 {
     let at = way.at;
-    if !edges::same_vertex(at, Vertex::AS(dst)) {
+    if !vertices::same_vertex(at, Vertex::AS(dst)) {
         return false;
     }
     if !kinds_allowed(count, way.kinds) {

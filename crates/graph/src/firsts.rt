@@ -9,8 +9,8 @@ ghost use Rattle.spec.specs.Book.{segments, segmentAt, segmentCount};
 ghost use Rattle.spec.specs.Edges.{isFirst};
 ghost use Rattle.graph.specs.Ready.{Ready};
 ghost use Rattle.graph.specs.Firsts.{markOf, firstAt, Firsts};
-use crate::edges;
-use crate::edges::PLACES;
+use crate::opened;
+use book::PLACES;
 use spec::Head;
 use spec::Limits;
 use spec::Sizes;
@@ -27,10 +27,10 @@ fn body_byte(book: &[u8], table: &[u16; PLACES], k: u8, i: usize) -> u8
     requires { ⌜ i < entrySize ⌝ }
     ensures { λ r. ⌜ r ≡ getD (segmentAt (now (book .entry)) k .body) i 0 ⌝ }
 {
-    if edges::count_of(book, k) == 0 {
+    if opened::count_of(book, k) == 0 {
         return 0;
     }
-    book[edges::offset_at(table, k, 0) + i]
+    book[opened::offset_at(table, k, 0) + i]
 }
 
 // The low bytes of timestamp and id and two of the body, in one byte.
@@ -40,9 +40,9 @@ fn mark_of(book: &[u8], table: &[u16; PLACES], k: u8) -> u8
     ensures { λ r. ⌜ r ≡ markOf (segmentAt (now (book .entry)) k) ⌝ }
 {
     let head = Sizes::SIZE + Head::SIZE * (k as usize);
-    let low = edges::wide16(book[head + 3]) + edges::wide16(book[head + 5]);
-    let egress = edges::wide16(body_byte(book, table, k, EGRESS));
-    let mac = edges::wide16(body_byte(book, table, k, MAC));
+    let low = opened::wide16(book[head + 3]) + opened::wide16(book[head + 5]);
+    let egress = opened::wide16(body_byte(book, table, k, EGRESS));
+    let mac = opened::wide16(body_byte(book, table, k, MAC));
     ((low + egress + mac) % 256) as u8
 }
 

@@ -9,10 +9,12 @@ ghost use Rattle.graph.specs.Leaving.{entryCount, peerCountOf};
 ghost use Rattle.graph.specs.Link.{farEndOf};
 ghost use Rattle.graph.specs.Ready.{Ready, Filled};
 ghost use Rattle.graph.specs.Identity.{sameIdentity, identified, peerNamed};
-use crate::Found;
 use crate::edges;
-use crate::edges::PLACES;
+use crate::edges::Found;
+use crate::opened;
 use crate::slots;
+use crate::vertices;
+use book::PLACES;
 use spec::Edge;
 use spec::IsdAsn;
 use spec::SolutionEdge;
@@ -33,8 +35,8 @@ fn core_named(book: &[u8], table: &[u16; PLACES], n: u8, id: SolutionEdge) -> Fo
         return Found::Nothing;
     }
     let k = id.position;
-    let first = edges::as_at(book, table, k, 0);
-    let last = edges::as_at(book, table, k, n - 1);
+    let first = opened::as_at(book, table, k, 0);
+    let last = opened::as_at(book, table, k, n - 1);
     if id.construction {
         return Found::Edge(Edge {
             src: Vertex::AS(first),
@@ -47,7 +49,7 @@ fn core_named(book: &[u8], table: &[u16; PLACES], n: u8, id: SolutionEdge) -> Fo
             core: true,
         });
     }
-    if edges::same_as(first, last) {
+    if vertices::same_as(first, last) {
         return Found::Nothing;
     }
     Found::Edge(Edge {
@@ -78,11 +80,11 @@ fn as_named(book: &[u8], table: &[u16; PLACES], n: u8, id: SolutionEdge) -> Foun
     if i == n - 1 {
         return Found::Nothing;
     }
-    let here = edges::as_at(book, table, k, i);
-    if edges::find_as(book, table, k, here, i) < i {
+    let here = opened::as_at(book, table, k, i);
+    if opened::find_as(book, table, k, here, i) < i {
         return Found::Nothing;
     }
-    let leaf = edges::as_at(book, table, k, n - 1);
+    let leaf = opened::as_at(book, table, k, n - 1);
     if id.construction {
         return Found::Edge(Edge {
             src: Vertex::AS(here),
@@ -95,7 +97,7 @@ fn as_named(book: &[u8], table: &[u16; PLACES], n: u8, id: SolutionEdge) -> Foun
             core: false,
         });
     }
-    if edges::same_as(here, leaf) {
+    if vertices::same_as(here, leaf) {
         return Found::Nothing;
     }
     Found::Edge(Edge {
@@ -113,7 +115,7 @@ fn as_named(book: &[u8], table: &[u16; PLACES], n: u8, id: SolutionEdge) -> Foun
 // ---- a peer's edge
 
 // From the other side of a link to an AS.
-fn from_far(book: &[u8], table: &[u16; PLACES], k: u8, link: edges::Link, w: IsdAsn) -> Found
+fn from_far(book: &[u8], table: &[u16; PLACES], k: u8, link: vertices::Link, w: IsdAsn) -> Found
     requires { ⌜ Ready (now book) (now table) ⌝ }
     requires { ⌜ k < segmentCount (now book) ⌝ }
     ensures { λ r. ⌜ foundEdges r ≡ between (segmentAt (now (book .entry)) k) (farEndOf link) (AS w) ⌝ }
@@ -140,8 +142,8 @@ fn peer_named(book: &[u8], table: &[u16; PLACES], k: u8, i: u8, p: u8, construct
     if !construction {
         return edges::peer_up(book, table, k, i, p);
     }
-    let link = edges::link_at(book, table, k, i, p);
-    from_far(book, table, k, link, edges::leaf_as(book, table, k))
+    let link = opened::link_at(book, table, k, i, p);
+    from_far(book, table, k, link, opened::leaf_as(book, table, k))
 }
 
 fn same_identity(x: SolutionEdge, y: SolutionEdge) -> bool
@@ -174,7 +176,7 @@ fn link_named(book: &[u8], table: &[u16; PLACES], id: SolutionEdge) -> Found
     let k = id.position;
     let i = id.shortcut;
     let q = id.peer;
-    if edges::peer_count(book, table, k, i) < q as usize {
+    if opened::peer_count(book, table, k, i) < q as usize {
         return Found::Nothing;
     }
     let found = peer_named(book, table, k, i, q - 1, id.construction);
@@ -195,11 +197,11 @@ pub(crate) fn stored_edge(book: &[u8], table: &[u16; PLACES], id: SolutionEdge) 
     ensures { λ r. ⌜ foundEdges r ≡ identified (segmentAt (now (book .entry)) (id .position)) id ⌝ }
 {
     let k = id.position;
-    let n = edges::count_of(book, k);
+    let n = opened::count_of(book, k);
     if n <= id.shortcut {
         return Found::Nothing;
     }
-    if edges::is_core(book, k) {
+    if opened::is_core(book, k) {
         return core_named(book, table, n, id);
     }
     if id.peer == 0 {

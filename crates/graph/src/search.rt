@@ -15,12 +15,14 @@ ghost use Rattle.graph.specs.Pushed.{Room, Pushes};
 ghost use Rattle.graph.specs.Ready.{Ready};
 ghost use Rattle.graph.specs.Firsts.{firstAt};
 ghost use Rattle.graph.specs.Prepared.{begins, arrives, Planned, Prepared};
-use crate::Found;
 use crate::edges;
-use crate::edges::Ends;
-use crate::edges::PLACES;
+use crate::edges::Found;
 use crate::firsts;
+use crate::opened;
+use crate::opened::Ends;
 use crate::slots;
+use crate::vertices;
+use book::PLACES;
 use spec::Edge;
 use spec::IsdAsn;
 use spec::Limits;
@@ -125,7 +127,7 @@ fn across_with(
 {
     let to = f.dst;
     let dst = q.dst;
-    if edges::same_vertex(to, Vertex::AS(dst)) {
+    if vertices::same_vertex(to, Vertex::AS(dst)) {
         return slots::push_two(out, q.slots, n, e, f);
     }
     let Vertex::AS(a) = to else {
@@ -307,7 +309,7 @@ fn chains_from(
 {
     let to = e.dst;
     let dst = q.dst;
-    if edges::same_vertex(to, Vertex::AS(dst)) {
+    if vertices::same_vertex(to, Vertex::AS(dst)) {
         return slots::push_one(out, q.slots, n, e);
     }
     let Vertex::AS(a) = to else {
@@ -357,7 +359,7 @@ fn peer_chains(
     requires { ⌜ Room (q .slots) start (now out) ⌝ }
     ensures { λ r. ⌜ Pushes (q .slots) (start, now (out .entry)) (r, now (out .exit)) (flatMap (chainsFrom (now (book .entry)) (q .dst)) (flatMap (peerUp (segmentAt (now (book .entry)) k) i) (range 0 (peerCountOf (segmentAt (now (book .entry)) k) i)))) ⌝ }
 {
-    let count = edges::peer_count(book, table, k, i);
+    let count = opened::peer_count(book, table, k, i);
     let mut n = start;
     let mut p: u8 = 0;
     while (p as usize) < count {
@@ -420,7 +422,7 @@ fn chains_in(
     ensures { λ r. ⌜ Pushes (q .slots) (n, now (out .entry)) (r, now (out .exit)) (chainsIn (now (book .entry)) (q .dst) (q .src) (segmentAt (now (book .entry)) k)) ⌝ }
 {
     let src = q.src;
-    let count = edges::entry_count(book, k);
+    let count = opened::entry_count(book, k);
     if count == 0 {
         return n;
     }
@@ -428,8 +430,8 @@ fn chains_in(
         let found = edges::core_leaving(book, table, k, Vertex::AS(src));
         return chains_of(book, table, plan, q, found, out, n);
     }
-    let leaf = edges::leaf_as(book, table, k);
-    if edges::same_as(leaf, src) {
+    let leaf = opened::leaf_as(book, table, k);
+    if vertices::same_as(leaf, src) {
         return leaf_chains(book, table, plan, q, k, count as u8, out, n);
     }
     let found = edges::between(book, table, k, Vertex::AS(src), leaf);
@@ -482,7 +484,7 @@ fn ends_of(book: &[u8], table: &[u16; PLACES], q: Query, k: u8, first: u8) -> En
             dst: false,
         };
     }
-    edges::ends_in(book, table, k, q.src, q.dst)
+    opened::ends_in(book, table, k, q.src, q.dst)
 }
 
 // The next position where chains may arrive, from k on: k itself, or that from the position after it.
@@ -527,7 +529,7 @@ pub(crate) fn search(
     requires { ⌜ Room slots 0 (now out) ⌝ }
     ensures { λ r. ⌜ Pushes slots (0, now (out .entry)) (r, now (out .exit)) (foundChains (now (book .entry)) dst src) ⌝ }
 {
-    if edges::same_as(src, dst) {
+    if vertices::same_as(src, dst) {
         return 0;
     }
     let sizes = segment::sizes(book);

@@ -1,0 +1,63 @@
+-- `same_vertex` meets its contract.
+-- Assumes nothing.
+use mathlib.Core.Path.{sym, ap₂, _∙_}
+use Rattle.spec.specs.Edges.{sameVertex}
+use Rattle.graph.proofs.LookupReads.{as-as, as-peering, peering-as}
+use borrow.Author.Needs.{needs}
+use Rattle.graph.proofs.vertices.same_vertex.Statement.{statement}
+use Rattle.graph.proofs.vertices.same_vertex.Tie as tie
+
+enum-known-v : tie.Need-enum-known-v
+enum-known-v c = search needs
+
+enum-known-w : tie.Need-enum-known-w
+enum-known-w c = search needs
+
+same-as-requires : tie.Need-same-as-requires
+same-as-requires c κs = search needs
+
+enum-told : tie.Need-enum-told
+enum-told c = search needs
+
+enum-known-v-2 : tie.Need-enum-known-v-2
+enum-known-v-2 c = search needs
+
+enum-told-2 : tie.Need-enum-told-2
+enum-told-2 c = search needs
+
+enum-known-w-2 : tie.Need-enum-known-w-2
+enum-known-w-2 c = search needs
+
+same-link-requires : tie.Need-same-link-requires
+same-link-requires c κs = search needs
+
+returns : tie.Need-returns
+returns c = as-as (c .before .before .before .before .before .v .given .1) (c .before .before .w .given .1) (c .same-as .ensures)
+
+returns-2 : tie.Need-returns-2
+returns-2 c = as-peering (c .before .before .before .v .given .1) (c .enum-told .given .1)
+
+returns-3 : tie.Need-returns-3
+returns-3 c = peering-as (c .before .before .before .v2 .given .1) (c .enum-told2 .given .1)
+
+returns-4 : tie.Need-returns-4
+returns-4 c =
+    c .same-link .ensures
+    ∙ ap₂ sameVertex (sym (c .before .before .before .before .before .v2 .given .1)) (sym (c .before .before .w2 .given .1))
+
+pub same-vertex-spec : {M : Type 1} → statement M
+same-vertex-spec =
+    tie.close
+    (tie.spec
+    enum-known-v
+    enum-known-w
+    same-as-requires
+    enum-told
+    enum-known-v-2
+    enum-told-2
+    enum-known-w-2
+    same-link-requires
+    returns
+    returns-2
+    returns-3
+    returns-4)
