@@ -30,7 +30,7 @@ use Rattle.graph.specs.Leaving.{entryCount, peerCountOf, linkOf, asStand
 use Rattle.graph.specs.Scan.{entryWith, asEdgeAt}
 use Rattle.graph.specs.declared.vertices.Link.{Link}
 use Rattle.graph.specs.Link.{endOf, farEndOf}
-use Rattle.graph.specs.Identity.{sameIdentity, hasIdentity, identified, farLinkOf, peerNamed}
+use Rattle.graph.specs.Identity.{sameIdentity, hasIdentity, identified, farLinkOf, overPeer}
 use Rattle.graph.proofs.LookupLaws.{as-not-peering, one-is, stored-between, between-stored, as-other, as-leaf, peer-two, entry-parts, insertions-other, insertions-core, core-none, up-as, down-as}
 use Rattle.graph.proofs.LeavingLaws.{peer-up-mem, peer-stored, peer-given, between-mem, as-edge-one, as-first}
 
@@ -223,14 +223,14 @@ module _ (seg : Segment) where
   abbrev IdEnds : SolutionEdge → Edge → Type 0
   IdEnds id e = Ends (id .shortcut) (id .peer) (id .construction) e
 
-  pub ends-of : (id : SolutionEdge) {e : Edge} → Mem e (storedOf seg) → solutionEdge e ≡ id → IdEnds id e
+  pub begins-and-arrives : (id : SolutionEdge) {e : Edge} → Mem e (storedOf seg) → solutionEdge e ≡ id → IdEnds id e
   unfolding solutionEdge
-  ends-of id {e} m h = subst (λ d. IdEnds d e) h (ends m)
+  begins-and-arrives id {e} m h = subst (λ d. IdEnds d e) h (ends m)
 
   pub same-edge : {e f : Edge} → Mem e (storedOf seg) → Mem f (storedOf seg) → solutionEdge e ≡ solutionEdge f → e ≡ f
   same-edge {e} {f} k l h =
       let id : SolutionEdge = solutionEdge f in
-      let w = same-ends (id .shortcut) (id .peer) (id .construction) e f (ends-of id k h) (ends-of id l refl) in
+      let w = same-ends (id .shortcut) (id .peer) (id .construction) e f (begins-and-arrives id k h) (begins-and-arrives id l refl) in
       let p : f ∷ [] ≡ e ∷ [] = sym (stored-between seg f l) ∙ ap₂ (between seg) (sym (w .0)) (sym (w .1)) ∙ stored-between seg e k in
       cc
 
@@ -291,7 +291,7 @@ module _ (seg : Segment) where
 
     as-ends : {t : Bool} → id .construction ≡ t → {e : Edge} → Mem e (storedOf seg) → solutionEdge e ≡ id → Ends (id .shortcut) 0 t e
     as-ends d {e} m q =
-        subst (λ t. Ends (id .shortcut) 0 t e) d (subst (λ p. Ends (id .shortcut) p (id .construction) e) no-peer (ends-of id m q))
+        subst (λ t. Ends (id .shortcut) 0 t e) d (subst (λ p. Ends (id .shortcut) p (id .construction) e) no-peer (begins-and-arrives id m q))
 
     -- from the leaf to an entry of the leaf's AS: its edge is in construction direction
     pub leaf-again : id .construction ≡ false → sameAs (asOf seg (id .shortcut)) (leafAs seg) ≡ true → [] ≡ identified seg id
@@ -326,15 +326,15 @@ module _ (seg : Segment) where
   -- ---- peers' edges
 
   module _ (nc : seg .core ≡ false) (i p : ℕ) where
-    peers-stored : i < entryCount seg → p < peerCountOf seg i → (t : Bool) {e : Edge} → Mem e (peerNamed seg i p t) → Mem e (storedOf seg)
-    unfolding peerNamed
+    peers-stored : i < entryCount seg → p < peerCountOf seg i → (t : Bool) {e : Edge} → Mem e (overPeer seg i p t) → Mem e (storedOf seg)
+    unfolding overPeer
     peers-stored l g true m = between-stored seg (farLinkOf seg i p) leaf m .0
     peers-stored l g false {e} m =
         let w = peer-up-mem seg i p m in
         between-stored seg leaf (linkOf seg i p) (subst (Mem e) (sym (peer-stored seg nc i p l g (w .0))) (head (w .1))) .0
 
-    stored-peers : (t : Bool) {e : Edge} → Mem e (storedOf seg) → e .shortcut ≡ i → e .peer ≡ p + 1 → Ends i (suc p) t e → Mem e (peerNamed seg i p t)
-    unfolding peerNamed
+    stored-peers : (t : Bool) {e : Edge} → Mem e (storedOf seg) → e .shortcut ≡ i → e .peer ≡ p + 1 → Ends i (suc p) t e → Mem e (overPeer seg i p t)
+    unfolding overPeer
     stored-peers true m s q x = between-mem seg (farLinkOf seg i p) leaf m (x .0) (x .1)
     stored-peers false m s q x = peer-given seg nc i p m (x .0) s q
 
@@ -346,12 +346,12 @@ module _ (seg : Segment) where
   far-end i p m q = cc
 
   pub peer-down : (i p : ℕ) (m : Link) {last : IsdAsn} {t : Bool} → last ≡ leafAs seg → endOf m ≡ linkOf seg i p → t ≡ true
-      → between seg (farEndOf m) (AS last) ≡ peerNamed seg i p t
-  unfolding peerNamed
+      → between seg (farEndOf m) (AS last) ≡ overPeer seg i p t
+  unfolding overPeer
   peer-down i p m r q h = ap₂ (λ v w. between seg v (AS w)) (far-end i p m q) r ∙ ap (peer-either i p) (sym h)
 
-  pub peer-up : (i p : ℕ) {t : Bool} → t ≡ false → peerUp seg i p ≡ peerNamed seg i p t
-  unfolding peerNamed
+  pub peer-up : (i p : ℕ) {t : Bool} → t ≡ false → peerUp seg i p ≡ overPeer seg i p t
+  unfolding overPeer
   peer-up i p h = ap (peer-either i p) (sym h)
 
   found-in : {f : Found} {e : Edge} → f ≡ FoundEdge e → foundEdges f ≡ e ∷ []
@@ -359,7 +359,7 @@ module _ (seg : Segment) where
 
   module _ (id : SolutionEdge) (nc : seg .core ≡ false) (l : id .shortcut < entryCount seg) (some : 0 < id .peer) (few : id .peer ≤ peerCountOf seg (id .shortcut)) where
     abbrev named : List Edge
-    named = peerNamed seg (id .shortcut) (id .peer - 1) (id .construction)
+    named = overPeer seg (id .shortcut) (id .peer - 1) (id .construction)
 
     named-stored : {e : Edge} → Mem e named → Mem e (storedOf seg)
     named-stored m = peers-stored nc (id .shortcut) (id .peer - 1) l (omega arith) (id .construction) m
@@ -370,7 +370,7 @@ module _ (seg : Segment) where
         let s = said id e (w .1) in
         let q : id .peer ≡ suc (id .peer - 1) = omega arith in
         stored-peers nc (id .shortcut) (id .peer - 1) (id .construction) (w .0) (s .0) (omega (arith, s .1))
-        (subst (λ p. Ends (id .shortcut) p (id .construction) e) q (ends-of id (w .0) (w .1)))
+        (subst (λ p. Ends (id .shortcut) p (id .construction) e) q (begins-and-arrives id (w .0) (w .1)))
 
     module _ {f : Found} (found : foundEdges f ≡ named) where
       pub found-nothing : f ≡ Nothing → [] ≡ identified seg id

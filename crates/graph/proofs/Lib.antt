@@ -2,11 +2,10 @@ pub mod LookupScan
 pub mod LookupLaws
 pub mod LeavingLaws
 pub mod LookupReads
-pub mod FirstsLaws
-pub mod JointLaws
+pub mod FirstOfEqualsLaws
+pub mod EdgeFoundLaws
 pub mod IdentityLaws
-pub mod NamedReads
-pub mod AlikeLaws
+pub mod IdentityReads
 pub mod SearchLists
 pub mod SearchLaws
 pub mod SearchFound
@@ -17,8 +16,8 @@ pub mod PushedLaws
 pub mod PushedRecords
 pub mod PushedTurns
 pub mod ListLaws
-pub mod NamedLaws
-pub mod NamedPlaces
+pub mod RecordWalkLaws
+pub mod IdentityPlaces
 pub mod RecordedLaws
 pub mod RecordWords
-pub mod NamedTurns
+pub mod RecordWalkTurns

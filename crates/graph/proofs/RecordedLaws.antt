@@ -20,7 +20,7 @@ use Rattle.spec.proofs.AnswerLaws.{assembly-chain, assembly-stranger}
 use Rattle.graph.specs.declared.Chain.{Chain}
 use Rattle.graph.specs.declared.Chain.the-variants.{Refused, Stranger, Edges}
 use Rattle.graph.specs.Recorded.{recordedChains, recordedOn, recorded}
-use Rattle.graph.proofs.NamedLaws.{recorded-mem, mem-recorded}
+use Rattle.graph.proofs.RecordWalkLaws.{recorded-mem, mem-recorded}
 
 -- ---- what is said, by the verdict
 

@@ -82,11 +82,11 @@ module _ (b : List ℕ) (dst : IsdAsn) (n : ℕ) where
 -- ---- what is passed over
 
 module _ {A : Type 0} (f : Segment → List A) (b : List ℕ) (p : ℕ → Bool) where
-  over-next : (k left : ℕ) → ((i : ℕ) → k ≤ i → p i ≡ false → isFirst (segments b) (segmentAt b i) ≡ true → f (segmentAt b i) ≡ [])
+  skip-from : (k left : ℕ) → ((i : ℕ) → k ≤ i → p i ≡ false → isFirst (segments b) (segmentAt b i) ≡ true → f (segmentAt b i) ≡ [])
       → overFirsts f b k left ≡ overFirsts f b (firstWith p k left) (k + left - firstWith p k left)
   unfolding firstWith
-  over-next k zero none = let e : 0 ≡ k + 0 - k = omega arith in ap (overFirsts f b k) e
-  over-next k (suc left) none = go (p k) refl (over-next (k + 1) left (λ i h. none i (omega arith)))
+  skip-from k zero none = let e : 0 ≡ k + 0 - k = omega arith in ap (overFirsts f b k) e
+  skip-from k (suc left) none = go (p k) refl (skip-from (k + 1) left (λ i h. none i (omega arith)))
     where
       go : (t : Bool) → p k ≡ t → overFirsts f b (k + 1) left ≡ overFirsts f b (firstWith p (k + 1) left) (k + 1 + left - firstWith p (k + 1) left)
           → overFirsts f b k (suc left) ≡ overFirsts f b (if t then k else firstWith p (k + 1) left) (k + suc left - (if t then k else firstWith p (k + 1) left))
@@ -101,11 +101,11 @@ module _ {A : Type 0} (f : Segment → List A) (b : List ℕ) (p : ℕ → Bool)
           ∙ ih
           ∙ ap (λ m. overFirsts f b (firstWith p (k + 1) left) (m - firstWith p (k + 1) left)) e″
 
-  over-pass : (k n : ℕ) {j : ℕ} → k ≤ n → ((i : ℕ) → k ≤ i → p i ≡ false → isFirst (segments b) (segmentAt b i) ≡ true → f (segmentAt b i) ≡ [])
+  skip-to-next : (k n : ℕ) {j : ℕ} → k ≤ n → ((i : ℕ) → k ≤ i → p i ≡ false → isFirst (segments b) (segmentAt b i) ≡ true → f (segmentAt b i) ≡ [])
       → j ≡ firstWith p k (n - k) → overFirsts f b k (n - k) ≡ overFirsts f b j (n - j)
-  over-pass k n h none q =
+  skip-to-next k n h none q =
       let e : k + (n - k) ≡ n = omega arith in
-      over-next k (n - k) none
+      skip-from k (n - k) none
       ∙ ap (λ m. overFirsts f b (firstWith p k (n - k)) (m - firstWith p k (n - k))) e
       ∙ ap (λ i. overFirsts f b i (n - i)) (sym q)
 
@@ -126,10 +126,10 @@ module _ (b : List ℕ) (dst : IsdAsn) where
 
     module _ (o : cores b ≤ k) where
       pub pairs-pass : (e : Edge) → overFirsts (chainsWith b dst e) b k (n - k) ≡ overFirsts (chainsWith b dst e) b j (n - j)
-      pairs-pass e = over-pass (chainsWith b dst e) b (arrives b dst) k n h (λ i a q t. pair-none b dst e i (omega arith) (arrives-none b i dst (omega arith) q t)) next
+      pairs-pass e = skip-to-next (chainsWith b dst e) b (arrives b dst) k n h (λ i a q t. pair-none b dst e i (omega arith) (arrives-none b i dst (omega arith) q t)) next
 
       pub triples-pass : (e f : Edge) → overFirsts (triplesIn b dst e f) b k (n - k) ≡ overFirsts (triplesIn b dst e f) b j (n - j)
-      triples-pass e f = over-pass (triplesIn b dst e f) b (arrives b dst) k n h (λ i a q t. triple-none b dst e i f (omega arith) (arrives-none b i dst (omega arith) q t)) next
+      triples-pass e f = skip-to-next (triplesIn b dst e f) b (arrives b dst) k n h (λ i a q t. triple-none b dst e i f (omega arith) (arrives-none b i dst (omega arith) q t)) next
 
   -- one position, and on to the next
   module _ (k n : ℕ) {j : ℕ} (s : Stops b dst n k) (h : k < n) (next : j ≡ firstWith (arrives b dst) (k + 1) (n - (k + 1))) (o : cores b ≤ k) where

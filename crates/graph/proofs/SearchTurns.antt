@@ -21,7 +21,7 @@ use Rattle.graph.specs.declared.edges.Found.the-variants.{Edge as FoundE
 use Rattle.graph.specs.Lookup.{between, leavingOf, foundEdges}
 use Rattle.graph.specs.Leaving.{entryCount, peerCountOf, asUp, peerUp, upsAt, leavingIn}
 use Rattle.graph.specs.Scan.{hasAs, coreEdgeFrom}
-use Rattle.graph.specs.Firsts.{firstAt}
+use Rattle.graph.specs.FirstOfEquals.{firstAt}
 use Rattle.graph.specs.Prepared.{begins, arrives}
 use Rattle.graph.specs.Search.{isAs, endsAtAs, overFirsts, pair, triple, pairsIn, triplesIn, acrossWith, chainsWith, chainsFrom, chainsIn, foundChains}
 use Rattle.spec.proofs.Lists.{flatMap-append}

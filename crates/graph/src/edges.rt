@@ -12,7 +12,7 @@ ghost use Rattle.graph.specs.Lookup.{between, leavingOf, foundEdges};
 ghost use Rattle.graph.specs.Leaving.{entryCount, peerCountOf, asUp, peerUp};
 ghost use Rattle.graph.specs.Scan.{joins, entryWith, asEdgeAt, downPeerEdge};
 ghost use Rattle.graph.specs.Link.{endOf};
-ghost use Rattle.graph.specs.Joint.{jointEdge, jointEdges};
+ghost use Rattle.graph.specs.EdgeFound.{wholeEdge, wholeEdges};
 ghost use Rattle.graph.specs.Ready.{Ready, Filled};
 use crate::opened;
 use crate::vertices;
@@ -31,7 +31,7 @@ pub(crate) enum Found {
 // ---- between two vertices
 
 // What of an edge to an AS of a non-core segment is not known before it is found.
-pub(crate) struct Joint {
+pub(crate) struct EdgeFound {
     pub found: bool,
     pub construction: bool,
     pub shortcut: u8,
@@ -39,10 +39,10 @@ pub(crate) struct Joint {
     pub weight: u8,
 }
 
-fn no_joint() -> Joint
+fn none_found() -> EdgeFound
     ensures { λ r. ⌜ r .found ≡ false ⌝ }
 {
-    Joint {
+    EdgeFound {
         found: false,
         construction: false,
         shortcut: 0,
@@ -52,20 +52,20 @@ fn no_joint() -> Joint
 }
 
 // The AS edge at the first entry below the leaf that has an AS.
-fn as_joint(
+fn as_edge_found(
     book: &[u8],
     table: &[u16; PLACES],
     k: u8,
     n: u8,
     a: IsdAsn,
     construction: bool,
-) -> Joint
+) -> EdgeFound
     requires { ⌜ Filled (now book) (now table) k n ⌝ }
     requires { ⌜ segmentAt (now book) k .core ≡ false ⌝ }
-    ensures { λ r. ⌜ ((v : Vertex) (w : IsdAsn) → construction ≡ inConstruction (segmentAt (now (book .entry)) k) (AS w) → jointEdges k v w r ≡ asEdgeAt (segmentAt (now (book .entry)) k) v (AS w) (entryWith (segmentAt (now (book .entry)) k) a (n - 1))) ⌝ }
+    ensures { λ r. ⌜ ((v : Vertex) (w : IsdAsn) → construction ≡ inConstruction (segmentAt (now (book .entry)) k) (AS w) → wholeEdges k v w r ≡ asEdgeAt (segmentAt (now (book .entry)) k) v (AS w) (entryWith (segmentAt (now (book .entry)) k) a (n - 1))) ⌝ }
 {
     let i = opened::find_as(book, table, k, a, n - 1);
-    Joint {
+    EdgeFound {
         found: i < n - 1,
         construction: construction,
         shortcut: i,
@@ -75,37 +75,43 @@ fn as_joint(
 }
 
 // The stored edge of a non-core segment from an AS to an AS, of which one is the leaf's. What is answered is small.
-pub(crate) fn as_joint_of(book: &[u8], table: &[u16; PLACES], k: u8, a: IsdAsn, w: IsdAsn) -> Joint
+pub(crate) fn edge_between_ases(
+    book: &[u8],
+    table: &[u16; PLACES],
+    k: u8,
+    a: IsdAsn,
+    w: IsdAsn,
+) -> EdgeFound
     requires { ⌜ Ready (now book) (now table) ⌝ }
     requires { ⌜ k < segmentCount (now book) ⌝ }
     requires { ⌜ segmentAt (now book) k .core ≡ false ⌝ }
-    ensures { λ r. ⌜ jointEdges k (AS a) w r ≡ between (segmentAt (now (book .entry)) k) (AS a) (AS w) ⌝ }
+    ensures { λ r. ⌜ wholeEdges k (AS a) w r ≡ between (segmentAt (now (book .entry)) k) (AS a) (AS w) ⌝ }
 {
     let n = opened::count_of(book, k);
     if n == 0 {
-        return no_joint();
+        return none_found();
     }
     let leaf = opened::as_at(book, table, k, n - 1);
     if vertices::same_as(leaf, w) {
-        return as_joint(book, table, k, n, a, true);
+        return as_edge_found(book, table, k, n, a, true);
     }
     if vertices::same_as(leaf, a) {
-        return as_joint(book, table, k, n, w, false);
+        return as_edge_found(book, table, k, n, w, false);
     }
-    no_joint()
+    none_found()
 }
 
 // The edge to the leaf from the other side of a link, at the first entry that has the link.
-fn link_joint(book: &[u8], table: &[u16; PLACES], k: u8, n: u8, link: Link) -> Joint
+fn link_edge_found(book: &[u8], table: &[u16; PLACES], k: u8, n: u8, link: Link) -> EdgeFound
     requires { ⌜ Filled (now book) (now table) k n ⌝ }
     requires { ⌜ segmentAt (now book) k .core ≡ false ⌝ }
-    ensures { λ r. ⌜ ((v : Vertex) (w : IsdAsn) → true ≡ inConstruction (segmentAt (now (book .entry)) k) (AS w) → jointEdges k v w r ≡ downPeerEdge (segmentAt (now (book .entry)) k) v (AS w) (endOf link)) ⌝ }
+    ensures { λ r. ⌜ ((v : Vertex) (w : IsdAsn) → true ≡ inConstruction (segmentAt (now (book .entry)) k) (AS w) → wholeEdges k v w r ≡ downPeerEdge (segmentAt (now (book .entry)) k) v (AS w) (endOf link)) ⌝ }
 {
     let i = opened::find_linked(book, table, k, link, n);
     if n <= i {
-        return no_joint();
+        return none_found();
     }
-    Joint {
+    EdgeFound {
         found: true,
         construction: true,
         shortcut: i,
@@ -115,7 +121,7 @@ fn link_joint(book: &[u8], table: &[u16; PLACES], k: u8, n: u8, link: Link) -> J
 }
 
 // From a vertex to an AS: one of the two is the leaf.
-fn leaf_joint(
+fn edge_at_leaf(
     book: &[u8],
     table: &[u16; PLACES],
     k: u8,
@@ -123,14 +129,14 @@ fn leaf_joint(
     leaf: IsdAsn,
     v: Vertex,
     w: IsdAsn,
-) -> Joint
+) -> EdgeFound
     requires { ⌜ Filled (now book) (now table) k n ⌝ }
     requires { ⌜ segmentAt (now book) k .core ≡ false ⌝ }
     requires { ⌜ leaf ≡ leafAs (segmentAt (now book) k) ⌝ }
-    ensures { λ r. ⌜ jointEdges k v w r ≡ between (segmentAt (now (book .entry)) k) v (AS w) ⌝ }
+    ensures { λ r. ⌜ wholeEdges k v w r ≡ between (segmentAt (now (book .entry)) k) v (AS w) ⌝ }
 {
     match v {
-        Vertex::AS(a) => as_joint_of(book, table, k, a, w),
+        Vertex::AS(a) => edge_between_ases(book, table, k, a, w),
         Vertex::Peering {
             local_ia: l,
             local_ifid: i,
@@ -138,7 +144,7 @@ fn leaf_joint(
             peer_ifid: j,
         } => {
             if !vertices::same_as(leaf, w) {
-                return no_joint();
+                return none_found();
             }
             let link = Link {
                 local: p,
@@ -146,24 +152,30 @@ fn leaf_joint(
                 peer: l,
                 interface: i,
             };
-            link_joint(book, table, k, n, link)
+            link_edge_found(book, table, k, n, link)
         }
     }
 }
 
 // The stored edge of a non-core segment from a vertex to an AS. Most segments are passed over after a look at the
 // leaf's AS, and what is answered is small.
-pub(crate) fn joint_of(book: &[u8], table: &[u16; PLACES], k: u8, v: Vertex, w: IsdAsn) -> Joint
+pub(crate) fn edge_to_as(
+    book: &[u8],
+    table: &[u16; PLACES],
+    k: u8,
+    v: Vertex,
+    w: IsdAsn,
+) -> EdgeFound
     requires { ⌜ Ready (now book) (now table) ⌝ }
     requires { ⌜ k < segmentCount (now book) ⌝ }
     requires { ⌜ segmentAt (now book) k .core ≡ false ⌝ }
-    ensures { λ r. ⌜ jointEdges k v w r ≡ between (segmentAt (now (book .entry)) k) v (AS w) ⌝ }
+    ensures { λ r. ⌜ wholeEdges k v w r ≡ between (segmentAt (now (book .entry)) k) v (AS w) ⌝ }
 {
     let n = opened::count_of(book, k);
     if n == 0 {
-        return no_joint();
+        return none_found();
     }
-    leaf_joint(
+    edge_at_leaf(
         book,
         table,
         k,
@@ -175,8 +187,8 @@ pub(crate) fn joint_of(book: &[u8], table: &[u16; PLACES], k: u8, v: Vertex, w: 
 }
 
 // The whole edge.
-pub(crate) fn edge_at(k: u8, v: Vertex, w: IsdAsn, j: Joint) -> Edge
-    ensures { λ r. ⌜ r ≡ jointEdge k v w j ⌝ }
+pub(crate) fn whole_edge(k: u8, v: Vertex, w: IsdAsn, j: EdgeFound) -> Edge
+    ensures { λ r. ⌜ r ≡ wholeEdge k v w j ⌝ }
 {
     Edge {
         src: v,
@@ -254,9 +266,9 @@ pub(crate) fn between(book: &[u8], table: &[u16; PLACES], k: u8, v: Vertex, w: I
     if opened::is_core(book, k) {
         return core_between(book, table, k, n, leaf, v, w);
     }
-    let j = leaf_joint(book, table, k, n, leaf, v, w);
+    let j = edge_at_leaf(book, table, k, n, leaf, v, w);
     if j.found {
-        return Found::Edge(edge_at(k, v, w, j));
+        return Found::Edge(whole_edge(k, v, w, j));
     }
     Found::Nothing
 }

@@ -8,11 +8,10 @@ ghost use Rattle.spec.specs.Records.{slots};
 ghost use Rattle.spec.specs.Answers.{listing};
 ghost use Rattle.graph.specs.Ready.{Ready};
 
-mod alike;
 mod chains;
+mod edge_by_identity;
 mod edges;
-mod firsts;
-mod named;
+mod first_of_equals;
 mod opened;
 mod search;
 mod slots;

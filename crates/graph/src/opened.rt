@@ -66,7 +66,9 @@ fn half_within(book: &[u8], at: usize) -> u32
         + wide32(book[at + 3])
 }
 
-// Eight bytes.
+// The bytes of the widest number that is read at once.
+pub(crate) const WORD: usize = 8;
+
 pub(crate) fn word_within(book: &[u8], at: usize) -> u64
     requires { ⌜ at + 8 ≤ length (now book) ⌝ }
     ensures { λ r. ⌜ r ≡ be64 (now (book .entry)) at ⌝ }
@@ -113,7 +115,7 @@ pub(crate) fn entry_count(book: &[u8], k: u8) -> usize
 }
 
 // Where the low byte of the entry count stands, past the heads before its own.
-const COUNT: usize = Sizes::SIZE + 7;
+const COUNT_LOW: usize = Sizes::SIZE + Head::ENTRIES + 1;
 
 // The same in an accepted book, where it fits its low byte.
 pub(crate) fn count_of(book: &[u8], k: u8) -> u8
@@ -121,7 +123,7 @@ pub(crate) fn count_of(book: &[u8], k: u8) -> u8
     requires { ⌜ k < segmentCount (now book) ⌝ }
     ensures { λ r. ⌜ (r ≡ entryCount (segmentAt (now (book .entry)) k)) × (r ≤ maxEntries) ⌝ }
 {
-    book[COUNT + Head::SIZE * (k as usize)]
+    book[COUNT_LOW + Head::SIZE * (k as usize)]
 }
 
 // Where entry i of the segment at position k starts.
@@ -187,7 +189,13 @@ fn or_same(before: bool, x: IsdAsn, a: IsdAsn) -> bool
 }
 
 // An entry has the AS `src`, and one has `dst`. Every entry is looked at, so that the tests are no branches.
-pub(crate) fn ends_in(book: &[u8], table: &[u16; PLACES], k: u8, src: IsdAsn, dst: IsdAsn) -> Ends
+pub(crate) fn ends_among_entries(
+    book: &[u8],
+    table: &[u16; PLACES],
+    k: u8,
+    src: IsdAsn,
+    dst: IsdAsn,
+) -> Ends
     requires { ⌜ Ready (now book) (now table) ⌝ }
     requires { ⌜ k < segmentCount (now book) ⌝ }
     ensures { λ r. ⌜ (r .src ≡ hasAs (segmentAt (now (book .entry)) k) src) × (r .dst ≡ hasAs (segmentAt (now (book .entry)) k) dst) ⌝ }
@@ -207,14 +215,11 @@ pub(crate) fn ends_in(book: &[u8], table: &[u16; PLACES], k: u8, src: IsdAsn, ds
 
 // ---- peers
 
-// The peer count is an entry's last byte.
-const PEER_COUNT: usize = AsEntry::SIZE - 1;
-
 fn peers_at(book: &[u8], at: usize) -> u8
     requires { ⌜ at + entrySize ≤ length (now book) ⌝ }
     ensures { λ r. ⌜ r ≡ peerCount (now (book .entry)) at ⌝ }
 {
-    book[at + PEER_COUNT]
+    book[at + AsEntry::PEER_COUNT]
 }
 
 pub(crate) fn peer_count(book: &[u8], table: &[u16; PLACES], k: u8, i: u8) -> usize
@@ -239,10 +244,10 @@ fn same_peer(book: &[u8], at: usize, link: Link) -> bool
     requires { ⌜ at + peerSize ≤ length (now book) ⌝ }
     ensures { λ r. ⌜ r ≡ samePeer (peerEntryAt (now (book .entry)) at) link ⌝ }
 {
-    if pair_within(book, at + 13) != link.ingress {
+    if pair_within(book, at + PeerEntry::INGRESS) != link.ingress {
         return false;
     }
-    if pair_within(book, at + 8) != link.interface {
+    if pair_within(book, at + PeerEntry::INTERFACE) != link.interface {
         return false;
     }
     vertices::same_as(as_within(book, at), link.peer)
@@ -310,9 +315,9 @@ pub(crate) fn link_at(book: &[u8], table: &[u16; PLACES], k: u8, i: u8, p: u8) -
     let start = offset_at(table, k, i);
     let at = peer_offset(start, p);
     let local = as_within(book, start);
-    let ingress = pair_within(book, at + 13);
+    let ingress = pair_within(book, at + PeerEntry::INGRESS);
     let peer = as_within(book, at);
-    let interface = pair_within(book, at + 8);
+    let interface = pair_within(book, at + PeerEntry::INTERFACE);
     Link {
         local: local,
         ingress: ingress,

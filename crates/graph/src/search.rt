@@ -13,11 +13,11 @@ ghost use Rattle.graph.specs.Leaving.{entryCount, peerCountOf, peerUp, u
 ghost use Rattle.graph.specs.Search.{overFirsts, endsAtAs, chainsFrom, triplesIn, acrossWith, chainsWith, chainsIn, foundChains};
 ghost use Rattle.graph.specs.Pushed.{Room, Pushes};
 ghost use Rattle.graph.specs.Ready.{Ready};
-ghost use Rattle.graph.specs.Firsts.{firstAt};
+ghost use Rattle.graph.specs.FirstOfEquals.{firstAt};
 ghost use Rattle.graph.specs.Prepared.{begins, arrives, Planned, Prepared};
 use crate::edges;
 use crate::edges::Found;
-use crate::firsts;
+use crate::first_of_equals;
 use crate::opened;
 use crate::opened::Ends;
 use crate::slots;
@@ -65,7 +65,7 @@ fn triple_in(
     ensures { λ r. ⌜ Pushes (q .slots) (n, now (out .entry)) (r, now (out .exit)) (triplesIn (now (book .entry)) (q .dst) e f (segmentAt (now (book .entry)) k)) ⌝ }
 {
     let dst = q.dst;
-    let j = edges::as_joint_of(book, table, k, a, dst);
+    let j = edges::edge_between_ases(book, table, k, a, dst);
     if !j.found {
         return n;
     }
@@ -75,7 +75,7 @@ fn triple_in(
         n,
         e,
         f,
-        edges::edge_at(k, Vertex::AS(a), dst, j),
+        edges::whole_edge(k, Vertex::AS(a), dst, j),
     )
 }
 
@@ -207,11 +207,17 @@ fn as_pair_in(
     ensures { λ r. ⌜ Pushes (q .slots) (n, now (out .entry)) (r, now (out .exit)) (chainsWith (now (book .entry)) (q .dst) e (segmentAt (now (book .entry)) k)) ⌝ }
 {
     let dst = q.dst;
-    let j = edges::as_joint_of(book, table, k, a, dst);
+    let j = edges::edge_between_ases(book, table, k, a, dst);
     if !j.found {
         return n;
     }
-    slots::push_two(out, q.slots, n, e, edges::edge_at(k, Vertex::AS(a), dst, j))
+    slots::push_two(
+        out,
+        q.slots,
+        n,
+        e,
+        edges::whole_edge(k, Vertex::AS(a), dst, j),
+    )
 }
 
 fn as_pairs(
@@ -258,11 +264,11 @@ fn pair_in(
 {
     let from = e.dst;
     let dst = q.dst;
-    let j = edges::joint_of(book, table, k, from, dst);
+    let j = edges::edge_to_as(book, table, k, from, dst);
     if !j.found {
         return n;
     }
-    slots::push_two(out, q.slots, n, e, edges::edge_at(k, from, dst, j))
+    slots::push_two(out, q.slots, n, e, edges::whole_edge(k, from, dst, j))
 }
 
 // The same for all, of an edge that ends at a peering end.
@@ -465,7 +471,7 @@ fn all_chains(
 
 // Where chains may begin and arrive: of equal segments only in the first. A core segment has no last edge that the plan
 // is asked for, and its entries are not looked at.
-fn ends_of(book: &[u8], table: &[u16; PLACES], q: Query, k: u8, first: u8) -> Ends
+fn begins_and_arrives(book: &[u8], table: &[u16; PLACES], q: Query, k: u8, first: u8) -> Ends
     requires { ⌜ Ready (now book) (now table) ⌝ }
     requires { ⌜ k < segmentCount (now book) ⌝ }
     requires { ⌜ q .cores ≡ cores (now book) ⌝ }
@@ -484,7 +490,7 @@ fn ends_of(book: &[u8], table: &[u16; PLACES], q: Query, k: u8, first: u8) -> En
             dst: false,
         };
     }
-    opened::ends_in(book, table, k, q.src, q.dst)
+    opened::ends_among_entries(book, table, k, q.src, q.dst)
 }
 
 // The next position where chains may arrive, from k on: k itself, or that from the position after it.
@@ -501,14 +507,14 @@ fn plan_of(book: &[u8], table: &[u16; PLACES], q: Query) -> [u8; PLAN]
     ensures { λ r. ⌜ Planned (now (book .entry)) (q .src) (q .dst) (q .count) 0 r ⌝ }
 {
     let count = q.count;
-    let firsts = firsts::firsts_of(book, table, count);
+    let firsts = first_of_equals::firsts_of(book, table, count);
     let mut plan = [0u8; PLAN];
     plan[NEXT + (count as usize)] = count;
     let mut next = count;
     let mut k = count;
     while k > 0 {
         k -= 1;
-        let ends = ends_of(book, table, q, k, firsts[k as usize]);
+        let ends = begins_and_arrives(book, table, q, k, firsts[k as usize]);
         next = next_at(ends.dst, k, next);
         plan[k as usize] = slots::bit(ends.src);
         plan[NEXT + (k as usize)] = next;

@@ -1,6 +1,6 @@
 -- The record's own edge, or none past those that it names.
 -- Assumes nothing.
-use Rattle.graph.proofs.NamedTurns.{own-used, own-unused}
+use Rattle.graph.proofs.RecordWalkTurns.{own-used, own-unused}
 use borrow.Author.Needs.{needs}
 use Rattle.graph.proofs.chains.own_edge.Statement.{statement}
 use Rattle.graph.proofs.chains.own_edge.Tie as tie

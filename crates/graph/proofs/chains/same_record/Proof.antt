@@ -2,7 +2,7 @@
 -- Assumes nothing.
 use mathlib.Core.Path.{ap, _∙_}
 use Rattle.spec.specs.Basics.{sameList}
-use Rattle.graph.proofs.NamedTurns.{own-size}
+use Rattle.graph.proofs.RecordWalkTurns.{own-size}
 use borrow.Author.Needs.{needs}
 use Rattle.graph.proofs.chains.same_record.Statement.{statement}
 use Rattle.graph.proofs.chains.same_record.Tie as tie
