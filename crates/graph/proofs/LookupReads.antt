@@ -16,7 +16,7 @@ use Rattle.spec.specs.declared.Sizes.{Sizes}
 use Rattle.spec.specs.declared.Verdict.{Verdict}
 use Rattle.spec.specs.declared.Verdict.the-variants.{Accepted}
 use Rattle.spec.specs.declared.Edge.{Edge}
-use Rattle.spec.specs.Limits.{headSize, entrySize, peerSize, maxSegments, maxEntries}
+use Rattle.spec.specs.Limits.{sizesSize, headSize, entrySize, peerSize, maxSegments, maxEntries}
 use Rattle.spec.specs.Basics.{if_then_else_, any, filter, range}
 use Rattle.spec.specs.Octets.{be16}
 use Rattle.spec.specs.Book.{Segment, segmentAt, segmentCount, sizesAt, headOffset, wholeLength, verdict, entryCountAt, bodyOffset, isdAsnAt, peerCount, peerEntryAt, peerOffset, entryOffset}
@@ -102,6 +102,13 @@ module _ (b t : List ℕ) (r : Ready b t) (k : ℕ) (h : k < segmentCount b) whe
 
 -- ---- links
 
+-- where a peer's ingress and interface stand in it
+abbrev pub peerIngress : ℕ
+peerIngress = 13
+
+abbrev pub peerInterface : ℕ
+peerInterface = 8
+
 swap-and : (a c d e : Bool) → a ≡ true → (((a && c) && d) && e) ≡ ((c && e) && d)
 swap-and true true true true q = refl
 swap-and true true true false q = refl
@@ -168,21 +175,21 @@ peering-as {a = a} {l = l} {p = p} {i = i} {j = j} q s = apart a l p i j ∙ ap�
 
 -- the peer at an offset, test by test
 module _ (b : List ℕ) (at : ℕ) (l : Link) where
-  pub peer-ingress : {x : ℕ} → x ≡ be16 b (at + 13) → (x ≡ l .ingress → ⊥) → false ≡ samePeer (peerEntryAt b at) l
+  pub peer-ingress : {x : ℕ} → x ≡ be16 b (at + peerIngress) → (x ≡ l .ingress → ⊥) → false ≡ samePeer (peerEntryAt b at) l
   unfolding samePeer peerEntryAt
   peer-ingress p q =
-      sym (ap (λ y. (y && eqb (be16 b (at + 8)) (l .interface)) && sameAs (isdAsnAt b at) (l .peer)) (ne-eqb _ _ (λ e. q (p ∙ e))))
+      sym (ap (λ y. (y && eqb (be16 b (at + peerInterface)) (l .interface)) && sameAs (isdAsnAt b at) (l .peer)) (ne-eqb _ _ (λ e. q (p ∙ e))))
 
-  pub peer-interface : {y : ℕ} → y ≡ be16 b (at + 8) → (y ≡ l .interface → ⊥) → false ≡ samePeer (peerEntryAt b at) l
+  pub peer-interface : {y : ℕ} → y ≡ be16 b (at + peerInterface) → (y ≡ l .interface → ⊥) → false ≡ samePeer (peerEntryAt b at) l
   unfolding samePeer peerEntryAt
-  peer-interface p q = go (eqb (be16 b (at + 13)) (l .ingress)) (eqb (be16 b (at + 8)) (l .interface)) (ne-eqb _ _ (λ e. q (p ∙ e)))
+  peer-interface p q = go (eqb (be16 b (at + peerIngress)) (l .ingress)) (eqb (be16 b (at + peerInterface)) (l .interface)) (ne-eqb _ _ (λ e. q (p ∙ e)))
     where
       go : (x y : Bool) → y ≡ false → false ≡ ((x && y) && sameAs (isdAsnAt b at) (l .peer))
       go true true h = not-both refl h
       go true false h = refl
       go false y h = refl
 
-  pub peer-same : {x y : ℕ} {a : IsdAsn} {u : Bool} → x ≡ be16 b (at + 13) → x ≡ l .ingress → y ≡ be16 b (at + 8) → y ≡ l .interface
+  pub peer-same : {x y : ℕ} {a : IsdAsn} {u : Bool} → x ≡ be16 b (at + peerIngress) → x ≡ l .ingress → y ≡ be16 b (at + peerInterface) → y ≡ l .interface
       → a ≡ isdAsnAt b at → u ≡ sameAs a (l .peer) → u ≡ samePeer (peerEntryAt b at) l
   unfolding samePeer peerEntryAt
   peer-same p q r s t w =
@@ -291,16 +298,19 @@ count-of-entries b k q = q ∙ sym (count-read b k)
 pub count-most : (b : List ℕ) → verdict b ≡ Accepted → (k : ℕ) → k < segmentCount b → entryCount (segmentAt b k) ≤ maxEntries
 count-most b a k h = omega (arith, count-read b k, entry-count b (accepted b a) k h)
 
--- in an accepted book the count is its low byte, which lies within the book
+-- in an accepted book the count is its low byte, which lies within the book; where, past the heads before its own
+abbrev pub countLow : ℕ
+countLow = sizesSize + 7
+
 module _ (b : List ℕ) (a : verdict b ≡ Accepted) (k : ℕ) (h : k < segmentCount b) where
-  pub count-place : 15 + headSize * k < length b
+  pub count-place : countLow + headSize * k < length b
   unfolding wholeLength headOffset
   count-place = let w = accepted b a .whole in omega arith
 
-  pub count-low : getD b (15 + headSize * k) 0 ≡ entryCount (segmentAt b k)
+  pub count-low : getD b (countLow + headSize * k) 0 ≡ entryCount (segmentAt b k)
   unfolding entryCountAt headOffset be16
   count-low =
-      let e : headOffset k + 6 + 1 ≡ 15 + headSize * k = omega arith in
+      let e : headOffset k + 6 + 1 ≡ countLow + headSize * k = omega arith in
       omega (arith, ap (λ n. getD b n 0) e, count-read b k, entry-count b (accepted b a) k h)
 
 -- ---- edges
@@ -317,7 +327,7 @@ module _ (b : List ℕ) (k : ℕ) where
   -- the link of a peer, read at its place
   pub link-read : (t : List ℕ) (r : Ready b t) (h : k < segmentCount b) (i : ℕ) (l : i < entryCount seg) (p : ℕ) (g : p < peerCountOf seg i)
       → {o m : ℕ} {a c : IsdAsn} {x y : ℕ} → o ≡ getD t (maxEntries * k + i) 0 → m ≡ peerOffset o p
-      → a ≡ isdAsnAt b o → x ≡ be16 b (m + 13) → c ≡ isdAsnAt b m → y ≡ be16 b (m + 8) → Peering a x c y ≡ linkOf seg i p
+      → a ≡ isdAsnAt b o → x ≡ be16 b (m + peerIngress) → c ≡ isdAsnAt b m → y ≡ be16 b (m + peerInterface) → Peering a x c y ≡ linkOf seg i p
   unfolding linkOf peerEntryAt
   link-read t r h i l p g {o = o} {m = m} eo em ea ex ec ey =
       let read : peerEntryAt b m ≡ peerOf seg i p =

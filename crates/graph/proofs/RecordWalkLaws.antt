@@ -31,10 +31,11 @@ use Rattle.spec.proofs.AnswerLaws.{sameList-eq, sameList-refl, record-chain}
 use Rattle.graph.specs.declared.chains.Reached.{Reached}
 use Rattle.graph.specs.declared.Chain.the-variants.{Stranger, Edges}
 use Rattle.graph.specs.Identity.{hasIdentity, identifiedIn}
-use Rattle.graph.specs.Pushed.{recordOctets}
+use Rattle.records.specs.Octets.{recordOctets}
 use Rattle.graph.specs.Recorded.{isRecordOf, recordedChains, chainIn}
 use Rattle.graph.specs.RecordWalk.{ahead, withIdentities, begun, goesOn, oneFurther, kindsAllowed, ownSolution, hasArrived, completes, completed}
-use Rattle.graph.proofs.PushedRecords.{solution-is, record-of}
+use Rattle.records.proofs.Octets.{record-of}
+use Rattle.graph.proofs.PushedRecords.{solution-is}
 use Rattle.graph.proofs.IdentityLaws.{has-identity, own-identity}
 
 -- ---- stored edges by their identities
@@ -238,7 +239,7 @@ module _ (b : List ℕ) (src dst : IsdAsn) (r : List ℕ) where
   pub recorded-size : (length r ≡ solutionSize → ⊥) → Stranger ≡ chainIn (recordedChains b src dst r)
   recorded-size d = recorded-none (λ c p q. d (ap length q ∙ solution-length c (allowed-length c (p .kinds))))
 
-  module _ {n : ℕ} (m : n ≡ getD r 2 0) where
+  module _ {n : ℕ} (m : n ≡ solutionIn r .count) where
     abbrev ids : List SolutionEdge
     ids = map (recordEdge r) (range 0 n)
 

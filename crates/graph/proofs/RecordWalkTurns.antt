@@ -15,7 +15,7 @@ use Rattle.spec.specs.declared.Solution.{Solution}
 use Rattle.spec.specs.declared.Verdict.{Verdict}
 use Rattle.spec.specs.declared.Verdict.the-variants.{Accepted, Refused as RefusedBook}
 use Rattle.spec.specs.declared.Refusal.{Refusal}
-use Rattle.spec.specs.Limits.{maxEdges}
+use Rattle.spec.specs.Limits.{maxEdges, solutionSize}
 use Rattle.spec.specs.Basics.{if_then_else_, any, range}
 use Rattle.spec.specs.Book.{verdict}
 use Rattle.spec.specs.Records.{bit, noEdge, recordEdge}
@@ -26,10 +26,10 @@ use Rattle.graph.specs.declared.edges.Found.{Found}
 use Rattle.graph.specs.declared.edges.Found.the-variants.{Edge as FoundEdge, Nothing}
 use Rattle.graph.specs.Lookup.{foundEdges}
 use Rattle.graph.specs.Identity.{identifiedIn}
-use Rattle.graph.specs.Pushed.{recordOctets}
+use Rattle.records.specs.Octets.{recordOctets}
 use Rattle.graph.specs.Recorded.{recordedChains, chainIn, recordedOn, recorded}
 use Rattle.graph.specs.RecordWalk.{ahead, withIdentities, goesOn, oneFurther, Bounded, kindsAllowed, ownEdge, ownSolution, hasArrived, completes, completed}
-use Rattle.graph.proofs.PushedRecords.{record-length}
+use Rattle.records.proofs.Octets.{record-length}
 use Rattle.graph.proofs.SearchLists.{range-turn}
 
 -- ---- two tests, one after the other
@@ -42,7 +42,7 @@ passes {y = y} p q r = r ∙ sym (ap (λ t. t && y) (sym p ∙ q))
 
 -- ---- a record and the one that was made of the edges
 
-pub own-size : {own : List ℕ} (s : Solution) → own ≡ recordOctets s → length own ≡ 16
+pub own-size : {own : List ℕ} (s : Solution) → own ≡ recordOctets s → length own ≡ solutionSize
 own-size s e = ap length e ∙ record-length s
 
 own-edges : (r : List ℕ) (n : ℕ) → n ≤ maxEdges
@@ -96,7 +96,7 @@ bit-small false = omega arith
 pub kinds-next : (k : ℕ) (t : Bool) {x : ℕ} → k < 4 → x ≡ bit t → k * 2 + x < 256
 kinds-next k t h e = omega (arith, bit-small t)
 
-pub bounded-two : (w : Reached) (x : ℕ) → x < maxEdges → Bounded x w → Bounded 2 w
+pub bounded-two : (w : Reached) (x : ℕ) → x < maxEdges → Bounded x w → Bounded (maxEdges - 1) w
 bounded-two w zero h s = let p = s .cost in let q = s .kinds in record { cost = omega arith; kinds = omega arith }
 bounded-two w (suc zero) h s = let p = s .cost in let q = s .kinds in record { cost = omega arith; kinds = omega arith }
 bounded-two w (suc (suc zero)) h s = s

@@ -64,9 +64,9 @@ module _ (xs ys : List ℕ) where
     unfolding be64
     eight-bytes = wider be32 4 (2 ^ 32) four-bytes (λ m n a c p q e. (omega arith, omega arith)) (be32-lt xs bx) (be32-lt ys by)
 
-    none : from 16 ≡ true
+    none : from solutionSize ≡ true
     unfolding sameList
-    none = ap₂ sameList (drop-of-length-le xs {i = 16} (omega arith)) (drop-of-length-le ys {i = 16} (omega arith))
+    none = ap₂ sameList (drop-of-length-le xs {i = solutionSize} (omega arith)) (drop-of-length-le ys {i = solutionSize} (omega arith))
 
     and-true : (x : Bool) → (x && true) ≡ x
     and-true true = refl

@@ -16,7 +16,7 @@ use Rattle.spec.specs.Edges.{sameVertex}
 use Rattle.spec.specs.Records.{bit, noEdge, recordEdge}
 use Rattle.graph.specs.declared.chains.Reached.{Reached}
 use Rattle.graph.specs.Identity.{identifiedIn}
-use Rattle.graph.specs.Pushed.{recordOctets}
+use Rattle.records.specs.Octets.{recordOctets}
 
 -- an edge before each of the lists
 unfoldable pub ahead : List (List Edge) → Edge → List (List Edge)

@@ -4,11 +4,10 @@ ghost use Prim.Native.Nat.{_+_, _-_, _≤_};
 ghost use lib.ListN.{length};
 ghost use Rattle.spec.specs.Limits.{maxEdges, solutionSize};
 ghost use Rattle.spec.specs.Basics.{sameList};
-ghost use Rattle.spec.specs.Records.{recordEdge};
+ghost use Rattle.records.specs.Octets.{recordOctets};
 ghost use Rattle.book.specs.Offsets.{openTable};
 ghost use Rattle.graph.specs.Lookup.{foundEdges};
 ghost use Rattle.graph.specs.Identity.{identifiedIn};
-ghost use Rattle.graph.specs.Pushed.{recordOctets};
 ghost use Rattle.graph.specs.Ready.{Ready};
 ghost use Rattle.graph.specs.Recorded.{chainIn, recorded, recordedChains};
 ghost use Rattle.graph.specs.RecordWalk.{Bounded, begun, goesOn, oneFurther, kindsAllowed, ownEdge, ownSolution, hasArrived, completed};
@@ -30,20 +29,6 @@ use spec::Vertex;
 
 // ---- what a record says
 
-// Edge k of a record.
-fn named_edge(given: &[u8], k: u8) -> SolutionEdge
-    ensures { λ r. ⌜ r ≡ recordEdge (now (given .entry)) k ⌝ }
-{
-    let at = Solution::HEAD + SolutionEdge::SIZE * (k as usize);
-    let construction = octets::byte(given, at + SolutionEdge::DIRECTION);
-    SolutionEdge {
-        position: octets::byte(given, at),
-        shortcut: octets::byte(given, at + SolutionEdge::SHORTCUT),
-        peer: octets::byte(given, at + SolutionEdge::PEER),
-        construction: construction == 1,
-    }
-}
-
 // Two records are the same.
 fn same_words(a: &[u8], b: &[u8]) -> bool
     requires { ⌜ length (now a) ≡ solutionSize ⌝ }
@@ -61,7 +46,7 @@ fn same_record(given: &[u8], s: Solution) -> bool
     requires { ⌜ length (now given) ≡ solutionSize ⌝ }
     ensures { λ r. ⌜ r ≡ sameList (now (given .entry)) (recordOctets s) ⌝ }
 {
-    let own = slots::octets_of(s);
+    let own = records::solution_octets(s);
     same_words(given, &own)
 }
 
@@ -138,7 +123,7 @@ fn own_edge(given: &[u8], count: u8, k: u8) -> SolutionEdge
     ensures { λ r. ⌜ r ≡ ownEdge (now (given .entry)) count k ⌝ }
 {
     if k < count {
-        return named_edge(given, k);
+        return records::edge(given, k);
     }
     slots::no_edge()
 }
@@ -198,7 +183,7 @@ fn is_chain(
     };
     let mut x: u8 = 0;
     while x < count {
-        let id = named_edge(given, x);
+        let id = records::edge(given, x);
         let found = edge_of(book, table, id);
         let Found::Edge(e) = found else {
             return false;
@@ -223,7 +208,7 @@ fn chain_in(src: IsdAsn, dst: IsdAsn, book: &[u8], table: &[u16; PLACES], given:
     if given.len() != Solution::SIZE {
         return Chain::Stranger;
     }
-    let count = octets::byte(given, Solution::COUNT);
+    let count = records::edge_count(given);
     if MOST < count {
         return Chain::Stranger;
     }

@@ -1,4 +1,4 @@
-// The records of solutions, and the slots of a lent buffer, which are filled from the front. The count
+// What the records of chains say, and the slots of a lent buffer, which are filled from the front. The count
 // stops at one past the slots there are.
 ghost use mathlib.Core.Path.{_≡_};
 ghost use mathlib.Core.List.{[], _∷_};
@@ -8,7 +8,8 @@ ghost use Rattle.spec.specs.Limits.{solutionSize};
 ghost use Rattle.spec.specs.Order.{solutionEdge};
 ghost use Rattle.spec.specs.Records.{bit, noEdge, solutionOf};
 ghost use Rattle.output.specs.Write.{written};
-ghost use Rattle.graph.specs.Pushed.{recordOctets, pushRecord, Room, Pushes};
+ghost use Rattle.records.specs.Octets.{recordOctets};
+ghost use Rattle.graph.specs.Pushed.{pushRecord, Room, Pushes};
 use spec::Edge;
 use spec::Solution;
 use spec::SolutionEdge;
@@ -71,33 +72,6 @@ pub(crate) fn three(e: Edge, f: Edge, g: Edge) -> Solution
     )
 }
 
-pub(crate) fn octets_of(s: Solution) -> [u8; Solution::SIZE]
-    ensures { λ r. ⌜ r ≡ recordOctets s ⌝ }
-{
-    let cost = s.cost;
-    let e = s.edges[0];
-    let f = s.edges[1];
-    let g = s.edges[2];
-    [
-        (cost / 256) as u8,
-        (cost % 256) as u8,
-        s.count,
-        0,
-        e.position,
-        e.shortcut,
-        e.peer,
-        bit(e.construction),
-        f.position,
-        f.shortcut,
-        f.peer,
-        bit(f.construction),
-        g.position,
-        g.shortcut,
-        g.peer,
-        bit(g.construction),
-    ]
-}
-
 // ---- the slots
 
 // Writes a record at index `at`, byte by byte over a length that is fixed: the compiler makes one store of it.
@@ -119,7 +93,7 @@ fn push(out: &mut [u8], slots: usize, n: usize, s: Solution) -> usize
     ensures { λ r. ⌜ (r, now (out .exit)) ≡ pushRecord slots (n, now (out .entry)) (recordOctets s) ⌝ }
 {
     if n < slots {
-        let r = octets_of(s);
+        let r = records::solution_octets(s);
         put_record(&r, out, Solution::SIZE * n);
         return n + 1;
     }

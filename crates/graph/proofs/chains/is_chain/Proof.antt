@@ -24,11 +24,11 @@ edge-of-requires c κs = c .before .before .before .before .before .pre .0
 
 returns : tie.Need-returns Inv-loop μ-loop
 unfolding begun
-returns c = sym (c .before .before .before .before .before .loop .inv .2 ∙ edge-gone _ _ _ _ _ _ (c .before .before .before .before .loop-test .taken) (c .before .before .before .named-edge .ensures) _ (c .before .before .edge-of .ensures) (c .enum-told .given .1))
+returns c = sym (c .before .before .before .before .before .loop .inv .2 ∙ edge-gone _ _ _ _ _ _ (c .before .before .before .before .loop-test .taken) (c .before .before .before .edge .ensures) _ (c .before .before .edge-of .ensures) (c .enum-told .given .1))
 
 returns-2 : tie.Need-returns-2 Inv-loop μ-loop
 unfolding begun
-returns-2 c = sym (c .before .before .before .before .before .before .before .before .loop .inv .2 ∙ edge-astray _ _ _ _ _ _ (c .before .before .before .before .before .before .before .loop-test .taken) (c .before .before .before .before .before .before .named-edge .ensures) _ (c .before .before .before .before .before .edge-of .ensures) (c .before .before .before .found .given .1) (c .before .goes-on .ensures) (not-true _ (c .if1 .taken)))
+returns-2 c = sym (c .before .before .before .before .before .before .before .before .loop .inv .2 ∙ edge-astray _ _ _ _ _ _ (c .before .before .before .before .before .before .before .loop-test .taken) (c .before .before .before .before .before .before .edge .ensures) _ (c .before .before .before .before .before .edge-of .ensures) (c .before .before .before .found .given .1) (c .before .goes-on .ensures) (not-true _ (c .if1 .taken)))
 
 one-further-requires : tie.Need-one-further-requires Inv-loop μ-loop
 one-further-requires c κs = bounded-two _ _ (omega (arith, c .before .before .before .before .before .before .before .before .before .before .before .pre .1 .1)) (c .before .before .before .before .before .before .before .before .loop .inv .1)
@@ -43,7 +43,7 @@ loop-again : tie.Need-loop-again Inv-loop μ-loop
 loop-again c = (
   omega arith,
   bounded-further _ _ _ (omega (arith, c .before .before .before .before .before .before .before .before .before .before .before .before .pre .1 .1)) (c .before .before .before .before .before .before .before .before .before .loop .inv .1) (c .one-further .ensures .0) (c .one-further .ensures .1),
-  c .before .before .before .before .before .before .before .before .before .loop .inv .2 ∙ edge-passed _ _ _ _ _ _ (c .before .before .before .before .before .before .before .before .loop-test .taken) (c .before .before .before .before .before .before .before .named-edge .ensures) _ (c .before .before .before .before .before .before .edge-of .ensures) (c .before .before .before .before .found .given .1) (c .before .before .goes-on .ensures) (not-false _ (c .before .if1 .left)) (c .one-further .ensures .0),
+  c .before .before .before .before .before .before .before .before .before .loop .inv .2 ∙ edge-passed _ _ _ _ _ _ (c .before .before .before .before .before .before .before .before .loop-test .taken) (c .before .before .before .before .before .before .before .edge .ensures) _ (c .before .before .before .before .before .before .edge-of .ensures) (c .before .before .before .before .found .given .1) (c .before .before .goes-on .ensures) (not-false _ (c .before .if1 .left)) (c .one-further .ensures .0),
 )
 
 arrives-requires : tie.Need-arrives-requires Inv-loop μ-loop
