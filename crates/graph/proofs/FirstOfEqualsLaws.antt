@@ -17,7 +17,7 @@ use Rattle.spec.specs.Basics.{if_then_else_, any, range, sameList}
 use Rattle.spec.specs.Octets.{be16, be32, be64}
 use Rattle.spec.specs.Book.{Segment, segments, segmentAt, cores, segmentCount, headOffset, wholeLength, timestampAt, idAt, entryCountAt, bodyLengthAt, bodyOffset, peerCount, entryEnd, entryOffset, verdict}
 use Rattle.spec.specs.Edges.{sameBool, sameSegment, isEarlier, isFirst}
-use Rattle.spec.proofs.Membership.{and-true, mem-map, not-both}
+use Rattle.spec.proofs.Membership.{and-true, mem-map}
 use Rattle.spec.proofs.OnceLaws.{any-mem, segment-position}
 use Rattle.spec.proofs.BookLaws.{AcceptedBook, accepted, entry-count, mem-range}
 use Rattle.spec.proofs.BodyLaws.{body-end, body-filled, entry-place}

@@ -6,7 +6,7 @@ use native.Mathlib.Decide.{ℕ-discrete}
 use native.Mathlib.Omega.{arith}
 use mathlib.Core.Path.{_≡_, refl, sym, ap, ap₂, _∙_, subst}
 use mathlib.Core.Logic.{_⊎_, inl, inr, ⊎-elim}
-use mathlib.Core.Bool.{Bool, true, false, _&&_, not}
+use mathlib.Core.Bool.{Bool, true, false, _&&_}
 use mathlib.Core.List.{List, [], _∷_, reverse, List·Memᴰ as Mem, List·Memᴰ·head as head, List·Memᴰ·tail as tail, List·Memᴰ·not-nil as not-nil, List·Memᴰ·cases-cons as cases-cons, List·Memᴰ·append-cases as append-cases}
 use lib.ListN.{length}
 use lib.Dec.{eqb}
@@ -94,7 +94,7 @@ module _ (x y : SolutionEdge) where
       let t : x .construction ≡ y .construction = bool-eq _ _ (a .1) in
       λ i. record { position = p i; shortcut = q i; peer = r i; construction = t i }
 
-pub identity-refl : (x : SolutionEdge) → sameIdentity x x ≡ true
+identity-refl : (x : SolutionEdge) → sameIdentity x x ≡ true
 identity-refl x = sym (by-direction x x refl refl refl (sym (bool-refl (x .construction))))
 
 pub has-identity : (id : SolutionEdge) (e : Edge) → hasIdentity id e ≡ true → solutionEdge e ≡ id
@@ -227,7 +227,7 @@ module _ (seg : Segment) where
   unfolding solutionEdge
   begins-and-arrives id {e} m h = subst (λ d. IdEnds d e) h (ends m)
 
-  pub same-edge : {e f : Edge} → Mem e (storedOf seg) → Mem f (storedOf seg) → solutionEdge e ≡ solutionEdge f → e ≡ f
+  same-edge : {e f : Edge} → Mem e (storedOf seg) → Mem f (storedOf seg) → solutionEdge e ≡ solutionEdge f → e ≡ f
   same-edge {e} {f} k l h =
       let id : SolutionEdge = solutionEdge f in
       let w = same-ends (id .shortcut) (id .peer) (id .construction) e f (begins-and-arrives id k h) (begins-and-arrives id l refl) in
@@ -238,12 +238,12 @@ module _ (seg : Segment) where
   unfolding identified
   identified-mem id {e} m = let w = filter-mem (hasIdentity id) (storedOf seg) m in (w .0, has-identity id e (w .1))
 
-  pub identified-one : (id : SolutionEdge) → length (identified seg id) ≤ 1
+  identified-one : (id : SolutionEdge) → length (identified seg id) ≤ 1
   identified-one id =
       all-same (identified seg id) (unfold identified storedOf in once-filter (hasIdentity id) _ (once-lasting (insertions seg)))
       (λ e f k l. let v = identified-mem id k in let w = identified-mem id l in same-edge (v .0) (w .0) (v .1 ∙ sym (w .1)))
 
-  pub stored-identified : (e : Edge) → Mem e (storedOf seg) → identified seg (solutionEdge e) ≡ e ∷ []
+  stored-identified : (e : Edge) → Mem e (storedOf seg) → identified seg (solutionEdge e) ≡ e ∷ []
   stored-identified e m =
       one-is e (identified seg (solutionEdge e)) (identified-one (solutionEdge e))
       (unfold identified in mem-filter (hasIdentity (solutionEdge e)) (storedOf seg) m (own-identity e))

@@ -103,10 +103,10 @@ module _ (b t : List ℕ) (r : Ready b t) (k : ℕ) (h : k < segmentCount b) whe
 -- ---- links
 
 -- where a peer's ingress and interface stand in it
-abbrev pub peerIngress : ℕ
+abbrev peerIngress : ℕ
 peerIngress = 13
 
-abbrev pub peerInterface : ℕ
+abbrev peerInterface : ℕ
 peerInterface = 8
 
 swap-and : (a c d e : Bool) → a ≡ true → (((a && c) && d) && e) ≡ ((c && e) && d)
@@ -299,7 +299,7 @@ pub count-most : (b : List ℕ) → verdict b ≡ Accepted → (k : ℕ) → k <
 count-most b a k h = omega (arith, count-read b k, entry-count b (accepted b a) k h)
 
 -- in an accepted book the count is its low byte, which lies within the book; where, past the heads before its own
-abbrev pub countLow : ℕ
+abbrev countLow : ℕ
 countLow = sizesSize + 7
 
 module _ (b : List ℕ) (a : verdict b ≡ Accepted) (k : ℕ) (h : k < segmentCount b) where
@@ -344,7 +344,7 @@ module _ (b : List ℕ) (k : ℕ) where
   abbrev pub made : Vertex → Vertex → ℕ → ℕ → ℕ → Bool → Bool → Edge
   made v w weight i q c t = record { src = v; dst = w; weight = weight; shortcut = i; peer = q; position = k; construction = c; core = t }
 
-  pub edge-made : (v w : Vertex) (weight i q : ℕ) (c t : Bool) → c ≡ inConstruction seg w → t ≡ seg .core → made v w weight i q c t ≡ edgeOf seg v w weight i q
+  edge-made : (v w : Vertex) (weight i q : ℕ) (c t : Bool) → c ≡ inConstruction seg w → t ≡ seg .core → made v w weight i q c t ≡ edgeOf seg v w weight i q
   unfolding edgeOf
   edge-made v w weight i q c t p r =
       ap₂ (λ (x y : Bool). made v w weight i q x y) p r ∙ ap (λ n. place v w weight i q n) (sym (segment-position b k))

@@ -1,19 +1,17 @@
 -- The bytes of a solution's record, and the record of a chain pushed.
 -- Assumes nothing.
-use Prim.Native.Nat.{ℕ, _+_, _*_, _-_, _/_, _%_, _^_, _≤_, _<_}
+use Prim.Native.Nat.{ℕ, _+_, _*_, _-_, _≤_, _<_}
 use native.Mathlib.Omega.{arith}
-use mathlib.Core.Path.{_≡_, refl, sym, ap, _∙_, subst}
-use mathlib.Core.List.{List, [], _∷_, _++_, map, flatMap}
+use mathlib.Core.Path.{_≡_, sym, ap, _∙_, subst}
+use mathlib.Core.List.{List, [], _∷_, _++_, map}
 use lib.ListN.{length, getD, set, take, drop, replicate}
 use lib.Seq.{take-all}
 use Rattle.spec.specs.declared.Edge.{Edge}
 use Rattle.spec.specs.declared.SolutionEdge.{SolutionEdge}
 use Rattle.spec.specs.declared.Solution.{Solution}
 use Rattle.spec.specs.Limits.{maxEdges, solutionSize}
-use Rattle.spec.specs.Basics.{range, padded}
-use Rattle.spec.specs.Octets.{octets2}
 use Rattle.spec.specs.Order.{cost, solutionEdge}
-use Rattle.spec.specs.Records.{bit, edgeOctets, edgeAt, noEdge, solutionOf, solutionOctets}
+use Rattle.spec.specs.Records.{noEdge, solutionOf}
 use Rattle.records.specs.Octets.{recordOctets}
 use Rattle.records.proofs.Octets.{record-length, record-of}
 use Rattle.output.specs.Write.{written}

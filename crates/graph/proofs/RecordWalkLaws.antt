@@ -6,7 +6,7 @@ use mathlib.Core.Path.{_≡_, refl, sym, ap, ap₂, _∙_, subst}
 use mathlib.Core.Logic.{⊎-elim}
 use mathlib.Core.Bool.{Bool, true, false, _&&_, _||_, not, false≢true}
 use mathlib.Core.List.{List, [], _∷_, _++_, map, List·Memᴰ as Mem, List·Memᴰ·head as head, List·Memᴰ·tail as tail, List·Memᴰ·not-nil as not-nil, List·Memᴰ·cases-cons as cases-cons, Memᴰ·cast}
-use lib.ListN.{length, getD, replicate, length-map}
+use lib.ListN.{length, replicate, length-map}
 use borrow.Author.Tests.{not-true}
 use Rattle.spec.specs.declared.IsdAsn.{IsdAsn}
 use Rattle.spec.specs.declared.Vertex.{Vertex}
@@ -170,11 +170,11 @@ module _ (dst : IsdAsn) (r : List ℕ) (n : ℕ) where
 -- ---- the record
 
 module _ (r : List ℕ) (c : List Edge) where
-  pub of-record : isRecordOf r c ≡ true → r ≡ solutionOctets c
+  of-record : isRecordOf r c ≡ true → r ≡ solutionOctets c
   unfolding isRecordOf
   of-record q = sameList-eq r (solutionOctets c) q
 
-  pub has-record : r ≡ solutionOctets c → isRecordOf r c ≡ true
+  has-record : r ≡ solutionOctets c → isRecordOf r c ≡ true
   unfolding isRecordOf
   has-record q = subst (λ x. sameList r x ≡ true) q (sameList-refl r)
 

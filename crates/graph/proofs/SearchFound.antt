@@ -152,7 +152,7 @@ module _ (b : List ℕ) (dst : IsdAsn) where
         go false q = subst (Mem c) (sym (found-from q)) (swap (leavingOf (AS src)) here (λ seg e k. mem-leaving seg src k) c (subst (Mem c) (chains-from q) m))
 
     -- in order they are the solutions
-    pub found-sorted : (digest : List ℕ → List ℕ) → insertAll digest b [] (foundChains b dst src) ≡ solutions digest b src dst
+    found-sorted : (digest : List ℕ → List ℕ) → insertAll digest b [] (foundChains b dst src) ≡ solutions digest b src dst
     found-sorted digest = sorted-any digest b src dst (foundChains b dst src) found-once found-sound found-complete
 
     pub found-length : (digest : List ℕ → List ℕ) → length (foundChains b dst src) ≡ length (solutions digest b src dst)

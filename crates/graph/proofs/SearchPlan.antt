@@ -114,7 +114,7 @@ module _ {A : Type 0} (f : Segment → List A) (b : List ℕ) (p : ℕ → Bool)
 -- ---- a loop over last edges
 
 -- what gives nothing in a non-core segment where no chain arrives
-abbrev pub Quiet : List ℕ → IsdAsn → (Segment → List (List Edge)) → Type 0
+abbrev Quiet : List ℕ → IsdAsn → (Segment → List (List Edge)) → Type 0
 Quiet b dst f = (i : ℕ) → cores b ≤ i → hasAs (segmentAt b i) dst ≡ false → f (segmentAt b i) ≡ []
 
 pub pairs-quiet : (b : List ℕ) (dst : IsdAsn) (e : Edge) → Quiet b dst (chainsWith b dst e)

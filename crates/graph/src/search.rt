@@ -7,7 +7,7 @@ ghost use Prim.Native.Nat.{_-_, _≤_, _<_};
 ghost use Rattle.spec.specs.declared.Vertex.the-variants.{AS};
 ghost use Rattle.spec.specs.Limits.{maxSegments};
 ghost use Rattle.spec.specs.Basics.{if_then_else_, range};
-ghost use Rattle.spec.specs.Book.{segmentAt, segments, segmentCount, cores};
+ghost use Rattle.spec.specs.Book.{segmentAt, segmentCount, cores};
 ghost use Rattle.graph.specs.Lookup.{foundEdges};
 ghost use Rattle.graph.specs.Leaving.{entryCount, peerCountOf, peerUp, upsAt};
 ghost use Rattle.graph.specs.Search.{overFirsts, endsAtAs, chainsFrom, triplesIn, acrossWith, chainsWith, chainsIn, foundChains};
