@@ -63,9 +63,6 @@ module _ (b t : List ℕ) (r : Ready b t) (k : ℕ) (h : k < segmentCount b) whe
   pub position-below : k < maxSegments
   position-below = position-small b book k h
 
-  pub count-small : entryCount (segmentAt b k) ≤ maxEntries
-  count-small = omega (arith, count-read b k, entry-count b book k h)
-
   module _ (i : ℕ) (l : i < entryCount (segmentAt b k)) where
     below : i < entryCountAt b k
     below = omega (arith, count-read b k)
@@ -291,9 +288,6 @@ module _ (seg : Segment) (a : IsdAsn) where
 pub core-read : (b : List ℕ) (k : ℕ) {x : Sizes} → x ≡ sizesAt b → ltb k (x .cores) ≡ segmentAt b k .core
 unfolding sizesAt segmentAt
 core-read b k q = ap (λ (y : Sizes). ltb k (y .cores)) q
-
-pub count-of-entries : (b : List ℕ) (k : ℕ) {n : ℕ} → n ≡ entryCountAt b k → n ≡ entryCount (segmentAt b k)
-count-of-entries b k q = q ∙ sym (count-read b k)
 
 pub count-most : (b : List ℕ) → verdict b ≡ Accepted → (k : ℕ) → k < segmentCount b → entryCount (segmentAt b k) ≤ maxEntries
 count-most b a k h = omega (arith, count-read b k, entry-count b (accepted b a) k h)

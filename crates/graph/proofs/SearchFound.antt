@@ -1,6 +1,6 @@
 -- The chains that the search finds are all chains, each once; in order they are the solutions.
 -- Assumes nothing.
-use Prim.Native.Nat.{ℕ, suc, _+_}
+use Prim.Native.Nat.{ℕ, suc, _+_, _-_}
 use native.Mathlib.Omega.{arith}
 use mathlib.Core.Path.{_≡_, refl, sym, ap, _∙_, subst}
 use mathlib.Core.Logic.{⊎-elim}
@@ -68,17 +68,17 @@ module _ (b : List ℕ) (dst : IsdAsn) where
   unfolding chainsFrom beginning
   from-once e = once-filter allowedKinds _ (go (sameVertex (e .dst) (AS dst)))
     where
-      go : (t : Bool) → Once (if t then (e ∷ []) ∷ [] else map (λ es. e ∷ es) (walks 2 (storedEdges b) (AS dst) (e .dst)))
+      go : (t : Bool) → Once (if t then (e ∷ []) ∷ [] else map (λ es. e ∷ es) (walks (maxEdges - 1) (storedEdges b) (AS dst) (e .dst)))
       go true = (λ m. absurd (not-nil m), tt)
-      go false = once-map (λ es. e ∷ es) (λ x y q. tail-eq-of-cons-eq q) (walks 2 (storedEdges b) (AS dst) (e .dst)) (once-walks (storedEdges b) (AS dst) (once-stored b) 2 (e .dst))
+      go false = once-map (λ es. e ∷ es) (λ x y q. tail-eq-of-cons-eq q) (walks (maxEdges - 1) (storedEdges b) (AS dst) (e .dst)) (once-walks (storedEdges b) (AS dst) (once-stored b) (maxEdges - 1) (e .dst))
 
   from-starts : (e : Edge) {c : List Edge} → Mem c (chainsFrom b dst e) → (d : List Edge) × (c ≡ e ∷ d)
   unfolding chainsFrom beginning
   from-starts e {c} m = go (sameVertex (e .dst) (AS dst)) (filter-mem allowedKinds _ m .0)
     where
-      go : (t : Bool) → Mem c (if t then (e ∷ []) ∷ [] else map (λ es. e ∷ es) (walks 2 (storedEdges b) (AS dst) (e .dst))) → (d : List Edge) × (c ≡ e ∷ d)
+      go : (t : Bool) → Mem c (if t then (e ∷ []) ∷ [] else map (λ es. e ∷ es) (walks (maxEdges - 1) (storedEdges b) (AS dst) (e .dst))) → (d : List Edge) × (c ≡ e ∷ d)
       go true k = ([], ⊎-elim (λ q. q) (λ l. absurd (not-nil l)) (cases-cons k))
-      go false k = let w = map-mem (λ es. e ∷ es) (walks 2 (storedEdges b) (AS dst) (e .dst)) k in (w .0, w .2)
+      go false k = let w = map-mem (λ es. e ∷ es) (walks (maxEdges - 1) (storedEdges b) (AS dst) (e .dst)) k in (w .0, w .2)
 
   module _ (src : IsdAsn) where
     abbrev here : Segment → List Edge
@@ -105,7 +105,7 @@ module _ (b : List ℕ) (dst : IsdAsn) where
     unfolding chains walks chainsFrom
     chains-from q =
         ap (λ t. if t then [] else filter allowedKinds (walks maxEdges (storedEdges b) (AS dst) (AS src))) q
-        ∙ through (filter allowedKinds) (unfold filter in refl) (filter-append allowedKinds) (beginning (walks 2 (storedEdges b) (AS dst)) (AS dst)) (leaving (AS src) (storedEdges b))
+        ∙ through (filter allowedKinds) (unfold filter in refl) (filter-append allowedKinds) (beginning (walks (maxEdges - 1) (storedEdges b) (AS dst)) (AS dst)) (leaving (AS src) (storedEdges b))
         ∙ ap (flatMap (chainsFrom b dst)) (leaving-over b (AS src))
 
     none-found : sameAs src dst ≡ true → foundChains b dst src ≡ []

@@ -10,6 +10,7 @@ use Rattle.spec.specs.declared.IsdAsn.{IsdAsn}
 use Rattle.spec.specs.declared.Vertex.{Vertex}
 use Rattle.spec.specs.declared.Vertex.the-variants.{AS}
 use Rattle.spec.specs.declared.Edge.{Edge}
+use Rattle.spec.specs.Limits.{maxEdges}
 use Rattle.spec.specs.Basics.{if_then_else_, filter, range}
 use Rattle.spec.specs.Book.{Segment, segments, segmentAt, segmentCount}
 use Rattle.spec.specs.Edges.{sameVertex, insertions, isFirst, firsts, storedOf, storedEdges}
@@ -122,7 +123,7 @@ module _ (b : List ℕ) (dst : IsdAsn) where
   pub from-arrived : (e : Edge) → sameVertex (e .dst) (AS dst) ≡ true → chainsFrom b dst e ≡ (e ∷ []) ∷ []
   unfolding chainsFrom beginning filter allowedKinds
   from-arrived e q =
-      ap (λ t. filter allowedKinds (if t then (e ∷ []) ∷ [] else map (λ es. e ∷ es) (walks 2 (storedEdges b) (AS dst) (e .dst)))) q
+      ap (λ t. filter allowedKinds (if t then (e ∷ []) ∷ [] else map (λ es. e ∷ es) (walks (maxEdges - 1) (storedEdges b) (AS dst) (e .dst)))) q
 
   -- ---- a last edge
 
@@ -299,7 +300,7 @@ module _ (b : List ℕ) (dst : IsdAsn) where
     pub from-onward : sameVertex (e .dst) (AS dst) ≡ false → chainsFrom b dst e ≡ overFirsts (chainsWith b dst e) b 0 (segmentCount b)
     unfolding chainsFrom beginning walks onward
     from-onward q =
-        ap (λ t. filter allowedKinds (if t then (e ∷ []) ∷ [] else map (λ es. e ∷ es) (walks 2 (storedEdges b) (AS dst) (e .dst)))) q
+        ap (λ t. filter allowedKinds (if t then (e ∷ []) ∷ [] else map (λ es. e ∷ es) (walks (maxEdges - 1) (storedEdges b) (AS dst) (e .dst)))) q
         ∙ ap onward (leaving-over b (e .dst))
         ∙ through onward onward-none onward-join (leavingOf (e .dst)) (firsts (segments b))
         ∙ flatMap-same _ _ (firsts (segments b)) (λ seg m. onward-with seg)

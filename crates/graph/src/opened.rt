@@ -108,16 +108,10 @@ pub(crate) fn is_core(book: &[u8], k: u8) -> bool
     (k as u16) < sizes_within(book).cores
 }
 
-pub(crate) fn entry_count(book: &[u8], k: u8) -> usize
-    ensures { λ r. ⌜ r ≡ entryCount (segmentAt (now (book .entry)) k) ⌝ }
-{
-    segment::entry_count(book, k) as usize
-}
-
 // Where the low byte of the entry count stands, past the heads before its own.
 const COUNT_LOW: usize = Sizes::SIZE + Head::ENTRIES + 1;
 
-// The same in an accepted book, where it fits its low byte.
+// How many entries a segment has: in an accepted book that fits the low byte.
 pub(crate) fn count_of(book: &[u8], k: u8) -> u8
     requires { ⌜ verdict (now book) ≡ Accepted ⌝ }
     requires { ⌜ k < segmentCount (now book) ⌝ }

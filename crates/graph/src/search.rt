@@ -248,7 +248,7 @@ fn as_pairs(
 }
 
 // An edge that ends anywhere, and one of the non-core segment at k that arrives.
-fn pair_in(
+fn link_pair_in(
     book: &[u8],
     table: &[u16; PLACES],
     q: Query,
@@ -291,7 +291,7 @@ fn link_pairs(
         if q.slots < n {
             return n;
         }
-        n = pair_in(book, table, q, k, e, out, n);
+        n = link_pair_in(book, table, q, k, e, out, n);
         k = plan[NEXT + (k as usize + 1)];
     }
     n
@@ -428,7 +428,7 @@ fn chains_in(
     ensures { λ r. ⌜ Pushes (q .slots) (n, now (out .entry)) (r, now (out .exit)) (chainsIn (now (book .entry)) (q .dst) (q .src) (segmentAt (now (book .entry)) k)) ⌝ }
 {
     let src = q.src;
-    let count = opened::entry_count(book, k);
+    let count = opened::count_of(book, k);
     if count == 0 {
         return n;
     }
@@ -438,7 +438,7 @@ fn chains_in(
     }
     let leaf = opened::leaf_as(book, table, k);
     if vertices::same_as(leaf, src) {
-        return leaf_chains(book, table, plan, q, k, count as u8, out, n);
+        return leaf_chains(book, table, plan, q, k, count, out, n);
     }
     let found = edges::between(book, table, k, Vertex::AS(src), leaf);
     chains_of(book, table, plan, q, found, out, n)
@@ -538,7 +538,7 @@ pub(crate) fn search(
     if vertices::same_as(src, dst) {
         return 0;
     }
-    let sizes = segment::sizes(book);
+    let sizes = opened::sizes_within(book);
     let count = (sizes.cores + sizes.others) as u8;
     let q = Query {
         cores: sizes.cores as u8,

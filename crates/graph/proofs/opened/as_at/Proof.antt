@@ -3,14 +3,14 @@
 use native.Mathlib.Omega.{arith}
 use mathlib.Core.Path.{sym, ap, _∙_}
 use Rattle.spec.specs.Book.{isdAsnAt}
-use Rattle.graph.proofs.LookupReads.{position-below, count-small, entry-within, as-read}
+use Rattle.graph.proofs.LookupReads.{position-below, count-most, entry-within, as-read}
 use Rattle.graph.proofs.opened.as_at.Statement.{statement}
 use Rattle.graph.proofs.opened.as_at.Tie as tie
 
 offset-at-requires : tie.Need-offset-at-requires
 offset-at-requires c κs =
     let p = c .before .pre in
-    (position-below _ _ (p .0) _ (p .1 .0), omega (arith, count-small _ _ (p .0) _ (p .1 .0)))
+    (position-below _ _ (p .0) _ (p .1 .0), omega (arith, count-most _ (p .0 .ok) _ (p .1 .0)))
 
 as-within-requires : tie.Need-as-within-requires
 as-within-requires c κs =

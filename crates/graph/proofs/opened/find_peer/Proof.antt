@@ -9,7 +9,7 @@ use Rattle.graph.specs.Leaving.{peerCountOf, isLink}
 use Rattle.graph.specs.Scan.{peerLinked}
 use Rattle.graph.specs.Link.{endOf}
 use Rattle.graph.proofs.LookupScan.{Sinking, sink-start, sink-stop, sink-turn, sink-end}
-use Rattle.graph.proofs.LookupReads.{position-below, count-small, entry-within, peer-within, peers-read, here-test, peer-test, link-none}
+use Rattle.graph.proofs.LookupReads.{position-below, count-most, entry-within, peer-within, peers-read, here-test, peer-test, link-none}
 use Rattle.graph.proofs.opened.find_peer.Statement.{statement}
 use Rattle.graph.proofs.opened.find_peer.Tie as tie
 
@@ -22,7 +22,7 @@ abbrev μ-loop : tie.MeasureT-loop
 offset-at-requires : tie.Need-offset-at-requires Inv-loop μ-loop
 offset-at-requires c κs =
     let p = c .before .pre in
-    (position-below _ _ (p .0) _ (p .1 .0), omega (arith, count-small _ _ (p .0) _ (p .1 .0)))
+    (position-below _ _ (p .0) _ (p .1 .0), omega (arith, count-most _ (p .0 .ok) _ (p .1 .0)))
 
 as-within-requires : tie.Need-as-within-requires Inv-loop μ-loop
 as-within-requires c κs =

@@ -1,7 +1,7 @@
 -- `link_at` meets its contract.
 -- Assumes nothing.
 use native.Mathlib.Omega.{arith}
-use Rattle.graph.proofs.LookupReads.{position-below, count-small, entry-within, peer-within, link-read}
+use Rattle.graph.proofs.LookupReads.{position-below, count-most, entry-within, peer-within, link-read}
 use borrow.Author.Needs.{needs}
 use Rattle.graph.proofs.opened.link_at.Statement.{statement}
 use Rattle.graph.proofs.opened.link_at.Tie as tie
@@ -9,7 +9,7 @@ use Rattle.graph.proofs.opened.link_at.Tie as tie
 offset-at-requires : tie.Need-offset-at-requires
 offset-at-requires c κs =
     let p = c .before .pre in
-    (position-below _ _ (p .0) _ (p .1 .0), omega (arith, count-small _ _ (p .0) _ (p .1 .0)))
+    (position-below _ _ (p .0) _ (p .1 .0), omega (arith, count-most _ (p .0 .ok) _ (p .1 .0)))
 
 as-within-requires : tie.Need-as-within-requires
 as-within-requires c κs =

@@ -3,7 +3,7 @@
 use native.Mathlib.Omega.{arith}
 use mathlib.Core.Path.{sym, ap, _∙_}
 use Rattle.spec.specs.Book.{peerCount}
-use Rattle.graph.proofs.LookupReads.{position-below, count-small, entry-within, peers-read}
+use Rattle.graph.proofs.LookupReads.{position-below, count-most, entry-within, peers-read}
 use borrow.Author.Needs.{needs}
 use Rattle.graph.proofs.opened.peer_count.Statement.{statement}
 use Rattle.graph.proofs.opened.peer_count.Tie as tie
@@ -11,7 +11,7 @@ use Rattle.graph.proofs.opened.peer_count.Tie as tie
 offset-at-requires : tie.Need-offset-at-requires
 offset-at-requires c κs =
     let p = c .before .pre in
-    (position-below _ _ (p .0) _ (p .1 .0), omega (arith, count-small _ _ (p .0) _ (p .1 .0)))
+    (position-below _ _ (p .0) _ (p .1 .0), omega (arith, count-most _ (p .0 .ok) _ (p .1 .0)))
 
 peers-at-requires : tie.Need-peers-at-requires
 peers-at-requires c κs =

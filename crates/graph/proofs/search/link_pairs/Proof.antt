@@ -20,8 +20,8 @@ loop-holds c = last-start (c .before .before .before .before .pre .0) (pairs-qui
 returns : tie.Need-returns Inv-loop μ-loop
 returns c = last-full (c .before .before .before .before .loop .inv) (omega arith)
 
-pair-in-requires : tie.Need-pair-in-requires Inv-loop μ-loop
-pair-in-requires c κs =
+link-pair-in-requires : tie.Need-link-pair-in-requires Inv-loop μ-loop
+link-pair-in-requires c κs =
     let p = c .before .before .before .before .before .before .before .before .before .before .pre in
     let l = c .before .before .before .before .before .loop .inv in
     (p .0 .ready, (last-position (p .0) l (omega arith), last-room (p .0) l (omega arith) (omega arith)))
@@ -34,7 +34,7 @@ loop-less c =
 loop-again : tie.Need-loop-again Inv-loop μ-loop
 loop-again c =
     let p = c .before .before .before .before .before .before .before .before .before .before .before .before .before .before .pre .0 in
-    last-turn p (pairs-quiet _ _ _) (c .before .before .before .before .before .before .before .before .before .loop .inv) (omega arith) (c .before .before .before .pair-in .ensures) (omega arith)
+    last-turn p (pairs-quiet _ _ _) (c .before .before .before .before .before .before .before .before .before .loop .inv) (omega arith) (c .before .before .before .link-pair-in .ensures) (omega arith)
 
 returns-2 : tie.Need-returns-2 Inv-loop μ-loop
 returns-2 c = last-end (c .before .before .loop .inv) (omega arith)
@@ -51,7 +51,7 @@ link-pairs-spec =
     loop-holds
     (λ c. search needs)
     returns
-    pair-in-requires
+    link-pair-in-requires
     (λ c. search needs)
     (λ c. search needs)
     (λ c. search needs)
