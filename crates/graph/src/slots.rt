@@ -6,7 +6,7 @@ ghost use Prim.Native.Nat.{_+_, _*_, _≤_};
 ghost use lib.ListN.{length, take, drop};
 ghost use Rattle.spec.specs.Limits.{solutionSize};
 ghost use Rattle.spec.specs.Order.{solutionEdge};
-ghost use Rattle.spec.specs.Records.{bit, noEdge, solutionOf};
+ghost use Rattle.spec.specs.Records.{bit, noEdge};
 ghost use Rattle.output.specs.Write.{written};
 ghost use Rattle.records.specs.Octets.{recordOctets};
 ghost use Rattle.graph.specs.Pushed.{pushRecord, Room, Pushes};
@@ -48,30 +48,6 @@ pub(crate) fn no_edge() -> SolutionEdge
     }
 }
 
-// ---- the record of a chain
-
-pub(crate) fn one(e: Edge) -> Solution
-    ensures { λ r. ⌜ r ≡ solutionOf (e ∷ []) ⌝ }
-{
-    Solution::new(weight(e), 1, [edge(e), no_edge(), no_edge()])
-}
-
-pub(crate) fn two(e: Edge, f: Edge) -> Solution
-    ensures { λ r. ⌜ r ≡ solutionOf (e ∷ f ∷ []) ⌝ }
-{
-    Solution::new(weight(e) + weight(f), 2, [edge(e), edge(f), no_edge()])
-}
-
-pub(crate) fn three(e: Edge, f: Edge, g: Edge) -> Solution
-    ensures { λ r. ⌜ r ≡ solutionOf (e ∷ f ∷ g ∷ []) ⌝ }
-{
-    Solution::new(
-        weight(e) + weight(f) + weight(g),
-        3,
-        [edge(e), edge(f), edge(g)],
-    )
-}
-
 // ---- the slots
 
 // Writes a record at index `at`, byte by byte over a length that is fixed: the compiler makes one store of it.
@@ -104,19 +80,23 @@ pub(crate) fn push_one(out: &mut [u8], slots: usize, n: usize, e: Edge) -> usize
     requires { ⌜ Room slots n (now out) ⌝ }
     ensures { λ r. ⌜ Pushes slots (n, now (out .entry)) (r, now (out .exit)) ((e ∷ []) ∷ []) ⌝ }
 {
-    push(out, slots, n, one(e))
+    let s = Solution::new(weight(e), 1, [edge(e), no_edge(), no_edge()]);
+    push(out, slots, n, s)
 }
 
 pub(crate) fn push_two(out: &mut [u8], slots: usize, n: usize, e: Edge, f: Edge) -> usize
     requires { ⌜ Room slots n (now out) ⌝ }
     ensures { λ r. ⌜ Pushes slots (n, now (out .entry)) (r, now (out .exit)) ((e ∷ f ∷ []) ∷ []) ⌝ }
 {
-    push(out, slots, n, two(e, f))
+    let s = Solution::new(weight(e) + weight(f), 2, [edge(e), edge(f), no_edge()]);
+    push(out, slots, n, s)
 }
 
 pub(crate) fn push_three(out: &mut [u8], slots: usize, n: usize, e: Edge, f: Edge, g: Edge) -> usize
     requires { ⌜ Room slots n (now out) ⌝ }
     ensures { λ r. ⌜ Pushes slots (n, now (out .entry)) (r, now (out .exit)) ((e ∷ f ∷ g ∷ []) ∷ []) ⌝ }
 {
-    push(out, slots, n, three(e, f, g))
+    let cost = weight(e) + weight(f) + weight(g);
+    let s = Solution::new(cost, 3, [edge(e), edge(f), edge(g)]);
+    push(out, slots, n, s)
 }

@@ -20,12 +20,6 @@ abbrev μ-loop : tie.MeasureT-loop
 loop-holds : tie.Need-loop-holds Inv-loop μ-loop
 loop-holds c = scan-start _ _
 
-as-at-requires : tie.Need-as-at-requires Inv-loop μ-loop
-as-at-requires c κs = search needs
-
-same-as-requires : tie.Need-same-as-requires Inv-loop μ-loop
-same-as-requires c κs = search needs
-
 returns : tie.Need-returns Inv-loop μ-loop
 unfolding entryWith
 returns c =
@@ -54,8 +48,8 @@ find-as-spec =
     Inv-loop
     μ-loop
     loop-holds
-    as-at-requires
-    same-as-requires
+    (λ c κs. search needs)
+    (λ c κs. search needs)
     returns
     add-i
     loop-less

@@ -21,9 +21,6 @@ abbrev μ-loop : tie.MeasureT-loop
 loop-holds : tie.Need-loop-holds Inv-loop μ-loop
 loop-holds c = scan-start _ _
 
-has-link-requires : tie.Need-has-link-requires Inv-loop μ-loop
-has-link-requires c κs = search needs
-
 returns : tie.Need-returns Inv-loop μ-loop
 unfolding entryLinked
 returns c =
@@ -52,7 +49,7 @@ find-linked-spec =
     Inv-loop
     μ-loop
     loop-holds
-    has-link-requires
+    (λ c κs. search needs)
     returns
     add-i
     loop-less

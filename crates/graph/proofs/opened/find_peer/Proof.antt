@@ -29,9 +29,6 @@ as-within-requires c κs =
     let p = c .before .before .pre in
     omega (arith, entry-within _ _ (p .0) _ (p .1 .0) _ (p .1 .1) (c .offset-at .ensures .0))
 
-same-as-requires : tie.Need-same-as-requires Inv-loop μ-loop
-same-as-requires c κs = search needs
-
 returns : tie.Need-returns Inv-loop μ-loop
 returns c =
     let s = c .before .before .before .before .before in
@@ -55,9 +52,6 @@ loop-holds c =
 
 sub-peer-offset : tie.Need-sub-peer-offset Inv-loop μ-loop
 sub-peer-offset c = omega arith
-
-peer-offset-requires : tie.Need-peer-offset-requires Inv-loop μ-loop
-peer-offset-requires c κs = search needs
 
 same-peer-requires : tie.Need-same-peer-requires Inv-loop μ-loop
 same-peer-requires c κs =
@@ -104,12 +98,12 @@ find-peer-spec =
     μ-loop
     offset-at-requires
     as-within-requires
-    same-as-requires
+    (λ c κs. search needs)
     returns
     peers-at-requires
     loop-holds
     sub-peer-offset
-    peer-offset-requires
+    (λ c κs. search needs)
     same-peer-requires
     returns-2
     sub-p

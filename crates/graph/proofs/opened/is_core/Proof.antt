@@ -5,11 +5,8 @@ use borrow.Author.Needs.{needs}
 use Rattle.graph.proofs.opened.is_core.Statement.{statement}
 use Rattle.graph.proofs.opened.is_core.Tie as tie
 
-sizes-within-requires : tie.Need-sizes-within-requires
-sizes-within-requires c κs = search needs
-
 returns : tie.Need-returns
 returns c = core-read _ _ (c .before .sizes-within .ensures)
 
 pub is-core-spec : {M : Type 1} → statement M
-is-core-spec = tie.close (tie.spec sizes-within-requires returns)
+is-core-spec = tie.close (tie.spec (λ c κs. search needs) returns)

@@ -9,19 +9,10 @@ use borrow.Author.Needs.{needs}
 use Rattle.graph.proofs.opened.leaf_as.Statement.{statement}
 use Rattle.graph.proofs.opened.leaf_as.Tie as tie
 
-count-of-requires : tie.Need-count-of-requires
-count-of-requires c κs = search needs
-
-sub-as-at : tie.Need-sub-as-at
-sub-as-at c = search needs
-
-as-at-requires : tie.Need-as-at-requires
-as-at-requires c κs = search needs
-
 returns : tie.Need-returns
 returns c =
     let a = c .before .before .before .args in
     c .as-at .ensures ∙ ap (λ n. asOf (segmentAt (a .book .now) (a .k)) (n - 1)) (c .before .count-of .ensures .0) ∙ leaf-is _
 
 pub leaf-as-spec : {M : Type 1} → statement M
-leaf-as-spec = tie.close (tie.spec count-of-requires sub-as-at as-at-requires returns)
+leaf-as-spec = tie.close (tie.spec (λ c κs. search needs) (λ c. search needs) (λ c κs. search needs) returns)

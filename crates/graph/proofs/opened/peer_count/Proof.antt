@@ -18,9 +18,6 @@ peers-at-requires c κs =
     let p = c .before .before .pre in
     entry-within _ _ (p .0) _ (p .1 .0) _ (p .1 .1) (c .offset-at .ensures .0)
 
-cast-result : tie.Need-cast-result
-cast-result c = search needs
-
 returns : tie.Need-returns
 returns c =
     let p = c .before .before .before .pre in
@@ -29,4 +26,4 @@ returns c =
     ∙ sym (peers-read _ _ (p .0) _ (p .1 .0) _ (p .1 .1))
 
 pub peer-count-spec : {M : Type 1} → statement M
-peer-count-spec = tie.close (tie.spec offset-at-requires peers-at-requires cast-result returns)
+peer-count-spec = tie.close (tie.spec offset-at-requires peers-at-requires (λ c. search needs) returns)

@@ -17,16 +17,10 @@ returns-2 c =
     let a = c .before .before .before .before .before .before .args in
     links-interface (a .a) (a .b) (c .if2 .taken)
 
-same-as-requires : tie.Need-same-as-requires
-same-as-requires c κs = search needs
-
 returns-3 : tie.Need-returns-3
 returns-3 c =
     let a = c .before .before .before .before .before .before .before .before .args in
     links-local (a .a) (a .b) (sym (c .before .same-as .ensures) ∙ not-true _ (c .if3 .taken))
-
-same-as-requires-2 : tie.Need-same-as-requires-2
-same-as-requires-2 c κs = search needs
 
 returns-4 : tie.Need-returns-4
 returns-4 c =
@@ -37,4 +31,4 @@ returns-4 c =
 
 pub same-link-spec : {M : Type 1} → statement M
 same-link-spec =
-    tie.close (tie.spec returns returns-2 same-as-requires returns-3 same-as-requires-2 returns-4)
+    tie.close (tie.spec returns returns-2 (λ c κs. search needs) returns-3 (λ c κs. search needs) returns-4)

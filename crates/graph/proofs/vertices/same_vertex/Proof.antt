@@ -7,30 +7,6 @@ use borrow.Author.Needs.{needs}
 use Rattle.graph.proofs.vertices.same_vertex.Statement.{statement}
 use Rattle.graph.proofs.vertices.same_vertex.Tie as tie
 
-enum-known-v : tie.Need-enum-known-v
-enum-known-v c = search needs
-
-enum-known-w : tie.Need-enum-known-w
-enum-known-w c = search needs
-
-same-as-requires : tie.Need-same-as-requires
-same-as-requires c κs = search needs
-
-enum-told : tie.Need-enum-told
-enum-told c = search needs
-
-enum-known-v-2 : tie.Need-enum-known-v-2
-enum-known-v-2 c = search needs
-
-enum-told-2 : tie.Need-enum-told-2
-enum-told-2 c = search needs
-
-enum-known-w-2 : tie.Need-enum-known-w-2
-enum-known-w-2 c = search needs
-
-same-link-requires : tie.Need-same-link-requires
-same-link-requires c κs = search needs
-
 returns : tie.Need-returns
 returns c = as-as (c .before .before .before .before .before .v .given .1) (c .before .before .w .given .1) (c .same-as .ensures)
 
@@ -49,14 +25,14 @@ pub same-vertex-spec : {M : Type 1} → statement M
 same-vertex-spec =
     tie.close
     (tie.spec
-    enum-known-v
-    enum-known-w
-    same-as-requires
-    enum-told
-    enum-known-v-2
-    enum-told-2
-    enum-known-w-2
-    same-link-requires
+    (λ c. search needs)
+    (λ c. search needs)
+    (λ c κs. search needs)
+    (λ c. search needs)
+    (λ c. search needs)
+    (λ c. search needs)
+    (λ c. search needs)
+    (λ c κs. search needs)
     returns
     returns-2
     returns-3
