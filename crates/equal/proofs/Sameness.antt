@@ -102,7 +102,7 @@ same-length (x ∷ xs) (y ∷ ys) q = ap suc (same-length xs ys (go (eqb x y) (s
     go true t p = p
     go false t p = let z : _≡_ {A = ℕ} 0 1 = cc in absurd (omega arith)
 
-false-from : (t : Bool) → (t ≡ true → ⊥) → t ≡ false
+pub false-from : (t : Bool) → (t ≡ true → ⊥) → t ≡ false
 false-from true f = absurd (f refl)
 false-from false f = refl
 

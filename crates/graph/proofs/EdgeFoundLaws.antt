@@ -24,7 +24,7 @@ use Rattle.graph.specs.Scan.{entryWith, entryLinked, peerLinked, asEdgeA
 use Rattle.graph.specs.EdgeFound.{wholeEdge, wholeEdges}
 use Rattle.graph.proofs.LookupScan.{first-le}
 use Rattle.graph.proofs.LookupLaws.{as-eq, eq-sameAs, as-not-peering}
-use Rattle.graph.proofs.LookupReads.{leaf-arrives, as-made, as-none, peer-made, peer-none, to-as, to-link, from-as, from-none}
+use Rattle.graph.proofs.EdgeReads.{leaf-arrives, as-made, as-none, peer-made, peer-none, to-as, to-link, from-as, from-none}
 
 -- ---- found or not
 

@@ -22,11 +22,12 @@ use Rattle.spec.proofs.OnceLaws.{any-mem, segment-position}
 use Rattle.spec.proofs.BookLaws.{AcceptedBook, accepted, entry-count, mem-range}
 use Rattle.spec.proofs.BodyLaws.{body-end, body-filled, entry-place}
 use Rattle.spec.proofs.AnswerLaws.{sameList-eq}
+use Rattle.equal.proofs.Sameness.{false-from}
 use Rattle.book.specs.Offsets.{noOffsets, withRow, rowsBelow, offsetTable}
 use Rattle.graph.specs.Leaving.{entryCount}
 use Rattle.graph.specs.Ready.{Ready}
 use Rattle.graph.specs.FirstOfEquals.{egressLow, macLast, wordEnd, headWordAt, entryWordAt, NoneBelow, markOf, firstAt, Firsts, Seen}
-use Rattle.graph.proofs.LookupReads.{count-read, place}
+use Rattle.graph.proofs.OpenedReads.{count-read, place}
 
 positive : (n : ℕ) → (n ≡ 0 → ⊥) → 0 < n
 positive zero d = absurd (d refl)
@@ -251,10 +252,6 @@ module _ (b t : List ℕ) (r : Ready b t) (k j : ℕ) (h : k < segmentCount b) (
 
 -- ---- positions below which no equal stands
 
-from-false : (t : Bool) → (t ≡ true → ⊥) → t ≡ false
-from-false true d = absurd (d refl)
-from-false false d = refl
-
 none-map : {A : Type 0} (p : A → Bool) (f : ℕ → A) → ((i : ℕ) → p (f i) ≡ false) → (xs : List ℕ) → any p (map f xs) ≡ false
 unfolding any
 none-map p f h [] = refl
@@ -303,10 +300,10 @@ module _ {b : List ℕ} {k j : ℕ} (n : NoneBelow b k j) (l : j < k) where
 
   module _ (t : List ℕ) (r : Ready b t) (h : k < segmentCount b) {x own : ℕ} where
     pub head-differs : x ≡ headWordAt b j → own ≡ headWordAt b k → (x ≡ own → ⊥) → NoneBelow b k (j + 1)
-    head-differs p q d = none-more (from-false _ (λ e. d (p ∙ sym (same-head b t r k j h (omega arith) e) ∙ sym q)))
+    head-differs p q d = none-more (false-from _ (λ e. d (p ∙ sym (same-head b t r k j h (omega arith) e) ∙ sym q)))
 
     pub entry-differs : x ≡ entryWordAt b t j → own ≡ entryWordAt b t k → (x ≡ own → ⊥) → NoneBelow b k (j + 1)
-    entry-differs p q d = none-more (from-false _ (λ e. d (p ∙ sym (same-entry b t r k j h (omega arith) e) ∙ sym q)))
+    entry-differs p q d = none-more (false-from _ (λ e. d (p ∙ sym (same-entry b t r k j h (omega arith) e) ∙ sym q)))
 
   module _ {same : Bool} (p : same ≡ sameSegment (segmentAt b k) (segmentAt b j)) where
     pub not-same : same ≡ false → NoneBelow b k (j + 1)
@@ -351,7 +348,7 @@ same-mark s t q =
 module _ (b : List ℕ) (k : ℕ) where
   pub unseen-first : (w : List ℕ) → Seen b k w → {m : ℕ} → m ≡ markOf (segmentAt b k) → getD w m 0 ≡ 0 → isFirst (segments b) (segmentAt b k) ≡ true
   unseen-first w s e z =
-      first-if b k (λ i h. from-false _ (λ q. omega (arith, s .marked i h, ap (λ j. getD w j 0) (e ∙ same-mark _ _ q))))
+      first-if b k (λ i h. false-from _ (λ q. omega (arith, s .marked i h, ap (λ j. getD w j 0) (e ∙ same-mark _ _ q))))
 
   -- where a mark is seen there is a segment before
   pub seen-bytes : (w : List ℕ) → Seen b k w → verdict b ≡ Accepted → k < segmentCount b → (m : ℕ) → (getD w m 0 ≡ 0 → ⊥) → wordEnd ≤ length b

@@ -32,20 +32,16 @@ use Rattle.graph.specs.declared.vertices.Link.{Link}
 use Rattle.graph.specs.Link.{endOf, farEndOf}
 use Rattle.graph.specs.Identity.{sameIdentity, hasIdentity, identified, farLinkOf, overPeer}
 use Rattle.graph.proofs.LookupLaws.{as-not-peering, one-is, stored-between, between-stored, as-other, as-leaf, peer-two, entry-parts, insertions-other, insertions-core, core-none, up-as, down-as}
+use Rattle.graph.proofs.VertexTests.{second-fails}
 use Rattle.graph.proofs.LeavingLaws.{peer-up-mem, peer-stored, peer-given, between-mem, as-edge-one, as-first}
 
 -- ---- identities
 
-fails-second : (x y z u : Bool) → y ≡ false → false ≡ (((x && y) && z) && u)
-fails-second true true z u q = not-both refl q
-fails-second true false z u q = refl
-fails-second false y z u q = refl
-
-fails-third : (x y z u : Bool) → z ≡ false → false ≡ (((x && y) && z) && u)
-fails-third true true true u q = not-both refl q
-fails-third true true false u q = refl
-fails-third true false z u q = refl
-fails-third false y z u q = refl
+third-fails : (x y z u : Bool) → z ≡ false → false ≡ (((x && y) && z) && u)
+third-fails true true true u q = not-both refl q
+third-fails true true false u q = refl
+third-fails true false z u q = refl
+third-fails false y z u q = refl
 
 bool-eq : (s t : Bool) → sameBool s t ≡ true → s ≡ t
 unfolding sameBool
@@ -67,11 +63,11 @@ module _ (x y : SolutionEdge) where
 
   pub other-shortcut : (x .shortcut ≡ y .shortcut → ⊥) → false ≡ sameIdentity x y
   unfolding sameIdentity
-  other-shortcut q = fails-second (eqb (x .position) (y .position)) _ _ _ (ne-eqb (x .shortcut) (y .shortcut) q)
+  other-shortcut q = second-fails (eqb (x .position) (y .position)) _ _ _ (ne-eqb (x .shortcut) (y .shortcut) q)
 
   pub other-peer : (x .peer ≡ y .peer → ⊥) → false ≡ sameIdentity x y
   unfolding sameIdentity
-  other-peer q = fails-third (eqb (x .position) (y .position)) (eqb (x .shortcut) (y .shortcut)) _ _ (ne-eqb (x .peer) (y .peer) q)
+  other-peer q = third-fails (eqb (x .position) (y .position)) (eqb (x .shortcut) (y .shortcut)) _ _ (ne-eqb (x .peer) (y .peer) q)
 
   pub by-direction : x .position ≡ y .position → x .shortcut ≡ y .shortcut → x .peer ≡ y .peer
       → {t : Bool} → t ≡ sameBool (x .construction) (y .construction) → t ≡ sameIdentity x y

@@ -19,7 +19,7 @@ use Rattle.graph.specs.Scan.{joins, entryWith}
 use Rattle.graph.specs.Identity.{identified}
 use Rattle.graph.proofs.LookupLaws.{eq-sameAs}
 use Rattle.graph.proofs.LeavingLaws.{as-entry}
-use Rattle.graph.proofs.LookupReads.{made, as-made, leaf-arrives, to-as, from-as, core-made, joins-first, joins-second, leaf-falls, again-falls, as-stands, below-leaf}
+use Rattle.graph.proofs.EdgeReads.{made, as-made, leaf-arrives, to-as, from-as, core-made, joins-first, joins-second, leaf-falls, again-falls, as-stands, below-leaf}
 use Rattle.graph.proofs.IdentityLaws.{between-identified, leaf-again, fallen-none}
 
 module _ (b : List ℕ) (id : SolutionEdge) (no-peer : id .peer ≡ 0) where

@@ -1,7 +1,9 @@
 pub mod LookupScan
 pub mod LookupLaws
 pub mod LeavingLaws
-pub mod LookupReads
+pub mod VertexTests
+pub mod OpenedReads
+pub mod EdgeReads
 pub mod FirstOfEqualsLaws
 pub mod EdgeFoundLaws
 pub mod IdentityLaws

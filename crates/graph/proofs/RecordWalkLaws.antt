@@ -34,6 +34,7 @@ use Rattle.graph.specs.Identity.{hasIdentity, identifiedIn}
 use Rattle.records.specs.Octets.{recordOctets}
 use Rattle.graph.specs.Recorded.{isRecordOf, recordedChains, chainIn}
 use Rattle.graph.specs.RecordWalk.{ahead, withIdentities, begun, goesOn, oneFurther, kindsAllowed, ownSolution, hasArrived, completes, completed}
+use Rattle.equal.proofs.Sameness.{false-from}
 use Rattle.records.proofs.Octets.{record-of}
 use Rattle.graph.proofs.PushedRecords.{solution-is}
 use Rattle.graph.proofs.IdentityLaws.{has-identity, own-identity}
@@ -120,10 +121,6 @@ kinds-passed src (e ∷ f ∷ g ∷ i ∷ c) h = absurd (omega arith)
 
 -- ---- the tests are those of a chain
 
-bool-false : (t : Bool) → (t ≡ true → ⊥) → t ≡ false
-bool-false true n = absurd (n refl)
-bool-false false n = refl
-
 module _ (dst : IsdAsn) (r : List ℕ) (n : ℕ) where
   abbrev goal : Vertex
   goal = AS dst
@@ -144,7 +141,7 @@ module _ (dst : IsdAsn) (r : List ℕ) (n : ℕ) where
 
   from-on : (w : Reached) (e : Edge) → (w .at ≡ goal → ⊥) → e .src ≡ w .at → goesOn dst w e ≡ true
   unfolding goesOn
-  from-on w e away q = true-and _ _ (ap not (bool-false (sameVertex (w .at) goal) (λ p. away (sameVertex-eq (w .at) goal p)))) (eq-sameVertex (e .src) (w .at) q)
+  from-on w e away q = true-and _ _ (ap not (false-from (sameVertex (w .at) goal) (λ p. away (sameVertex-eq (w .at) goal p)))) (eq-sameVertex (e .src) (w .at) q)
 
   came : (w : Reached) (e : Edge) (es : List Edge) → completes dst r n w (e ∷ es) ≡ true → Came w (e ∷ es)
   unfolding completes hasArrived oneFurther passed bit

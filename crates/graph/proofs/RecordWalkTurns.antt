@@ -3,7 +3,7 @@
 use Prim.Native.Nat.{ℕ, suc, zero, _+_, _-_, _*_, _^_, _≤_, _<_}
 use native.Mathlib.Omega.{arith}
 use mathlib.Core.Path.{_≡_, refl, sym, ap, _∙_}
-use mathlib.Core.Bool.{Bool, true, false, _&&_, _||_, not}
+use mathlib.Core.Bool.{Bool, true, false, _&&_, _||_, not, or-false, and-false, and-or-distrib-left}
 use mathlib.Core.List.{List, [], _∷_, _++_, map, flatMap, append-nil}
 use lib.ListN.{length, replicate}
 use lib.Dec.{eqb}
@@ -93,7 +93,7 @@ unfolding bit
 bit-small true = omega arith
 bit-small false = omega arith
 
-pub kinds-next : (k : ℕ) (t : Bool) {x : ℕ} → k < 4 → x ≡ bit t → k * 2 + x < 256
+pub kinds-next : (k : ℕ) (t : Bool) {x : ℕ} → k < 2 ^ (maxEdges - 1) → x ≡ bit t → k * 2 + x < 256
 kinds-next k t h e = omega (arith, bit-small t)
 
 pub bounded-two : (w : Reached) (x : ℕ) → x < maxEdges → Bounded x w → Bounded (maxEdges - 1) w
@@ -127,26 +127,14 @@ module _ (b : List ℕ) (id : SolutionEdge) (ids : List SolutionEdge) (found : F
   unfolding withIdentities flatMap foundEdges
   with-nothing q = ap (flatMap (ahead (withIdentities b ids))) (sym e ∙ ap foundEdges q)
 
-or-false : (t : Bool) → (t || false) ≡ t
-or-false true = refl
-or-false false = refl
-
 -- the edge goes on, and one of the lists after it does
 any-ahead : (dst : IsdAsn) (r : List ℕ) (n : ℕ) (w : Reached) (e : Edge) (cs : List (List Edge))
     → any (completes dst r n w) (ahead cs e) ≡ (goesOn dst w e && any (completes dst r n (oneFurther w e)) cs)
 unfolding any ahead completes
-any-ahead dst r n w e [] = none (goesOn dst w e)
-  where
-    none : (t : Bool) → false ≡ (t && false)
-    none true = refl
-    none false = refl
+any-ahead dst r n w e [] = sym (and-false (goesOn dst w e))
 any-ahead dst r n w e (c ∷ cs) =
     ap (λ t. (goesOn dst w e && completes dst r n (oneFurther w e) c) || t) (any-ahead dst r n w e cs)
-    ∙ both (goesOn dst w e) (completes dst r n (oneFurther w e) c) (any (completes dst r n (oneFurther w e)) cs)
-  where
-    both : (t x y : Bool) → ((t && x) || (t && y)) ≡ (t && (x || y))
-    both true x y = refl
-    both false x y = refl
+    ∙ sym (and-or-distrib-left (goesOn dst w e) (completes dst r n (oneFurther w e) c) (any (completes dst r n (oneFurther w e)) cs))
 
 module _ (b : List ℕ) (dst : IsdAsn) (r : List ℕ) (n : ℕ) (w : Reached) (x : ℕ) where
   -- all edges are passed

@@ -17,9 +17,6 @@ use Rattle.spec.proofs.BodyLaws.{entry-at, entry-place}
 use Rattle.graph.specs.Leaving.{entryCount, peerCountOf}
 
 module _ (b : List ℕ) (ok : verdict b ≡ Accepted) where
-  pub segments-few : segmentCount b ≤ maxSegments
-  segments-few = accepted b ok .crowd
-
   pub peers-few : (k i : ℕ) → k < segmentCount b → i < entryCount (segmentAt b k) → peerCountOf (segmentAt b k) i ≤ maxPeers
   unfolding entryCount peerCountOf entryAt
   peers-few k i h l =
@@ -40,4 +37,4 @@ unfolding sizesAt segmentCount
 counted b ok s e =
     let c : s .cores ≡ cores b = ap (λ (x : Sizes). x .cores) e in
     let n : s .others ≡ nonCores b = ap (λ (x : Sizes). x .others) e in
-    record { cores = c; count = ap₂ (λ x y. x + y) c n; small = omega (arith, segments-few b ok) }
+    record { cores = c; count = ap₂ (λ x y. x + y) c n; small = omega (arith, accepted b ok .crowd) }

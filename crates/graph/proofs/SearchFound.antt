@@ -1,6 +1,6 @@
 -- The chains that the search finds are all chains, each once; in order they are the solutions.
 -- Assumes nothing.
-use Prim.Native.Nat.{ℕ, suc, _+_, _-_}
+use Prim.Native.Nat.{ℕ, _-_}
 use native.Mathlib.Omega.{arith}
 use mathlib.Core.Path.{_≡_, refl, sym, ap, _∙_, subst}
 use mathlib.Core.Logic.{⊎-elim}
@@ -15,10 +15,10 @@ use Rattle.spec.specs.Basics.{if_then_else_, filter, range, Once}
 use Rattle.spec.specs.Book.{Segment, segments, segmentAt, segmentCount}
 use Rattle.spec.specs.Edges.{sameAs, sameVertex, insertions, isFirst, firsts, storedOf, storedEdges}
 use Rattle.spec.specs.Chains.{IsChain, allowedKinds, leaves, leaving, beginning, walks, chains}
-use Rattle.spec.specs.Order.{compareChains, isLt, insert, insertAll, solutions}
+use Rattle.spec.specs.Order.{insertAll, solutions}
 use Rattle.spec.proofs.Membership.{filter-mem, map-mem, flatMap-mem, mem-flatMap, once-filter, once-map, once-flatMap}
 use Rattle.spec.proofs.ChainLaws.{allowed-length, chains-sound, chains-complete}
-use Rattle.spec.proofs.OnceLaws.{inserted, lasting-mem, segment-position, same-position, once-range, once-stored, once-walks}
+use Rattle.spec.proofs.OnceLaws.{length-all, inserted, lasting-mem, segment-position, same-position, once-range, once-stored, once-walks}
 use Rattle.spec.proofs.OrderLaws.{sorted-any}
 use Rattle.graph.specs.Lookup.{leavingOf}
 use Rattle.graph.specs.Leaving.{leavingIn}
@@ -43,23 +43,6 @@ first-mem b m = filter-mem (isFirst (segments b)) (segments b) m .0
 leaving-position : (src : IsdAsn) (seg : Segment) {e : Edge} → Mem e (leavingOf (AS src) seg) → e .position ≡ seg .position
 unfolding leavingOf storedOf
 leaving-position src seg m = inserted seg (lasting-mem (insertions seg) (filter-mem (leaves (AS src)) (storedOf seg) m .0)) .position
-
--- ---- insertion adds one
-
-module _ (digest : List ℕ → List ℕ) (b : List ℕ) where
-  length-insert : (c : List Edge) (ds : List (List Edge)) → length (insert digest b c ds) ≡ suc (length ds)
-  unfolding insert
-  length-insert c [] = refl
-  length-insert c (d ∷ ds) = go (length-insert c ds) (isLt (compareChains digest b c d))
-    where
-      go : length (insert digest b c ds) ≡ suc (length ds) → (t : Bool) → length (if t then c ∷ d ∷ ds else d ∷ insert digest b c ds) ≡ suc (suc (length ds))
-      go ih true = refl
-      go ih false = ap suc ih
-
-  length-all : (ds cs : List (List Edge)) → length (insertAll digest b ds cs) ≡ length ds + length cs
-  unfolding insertAll
-  length-all ds [] = omega arith
-  length-all ds (c ∷ cs) = length-all (insert digest b c ds) cs ∙ omega (arith, length-insert c ds)
 
 -- ---- the chains that begin with an edge
 

@@ -4,7 +4,7 @@ use Prim.Native.Nat.{ℕ, zero, suc, _+_, _-_, _<_, _≤_}
 use native.Mathlib.Omega.{arith}
 use native.Mathlib.Nat.{add-zero}
 use mathlib.Core.Path.{_≡_, refl, sym, ap, ap₂, _∙_}
-use mathlib.Core.Bool.{Bool, true, false, _&&_, not}
+use mathlib.Core.Bool.{Bool, true, false, _&&_, not, and-false}
 use mathlib.Core.List.{List, [], _∷_, _++_, map, flatMap, append-assoc, List·Memᴰ as Mem}
 use Rattle.spec.specs.declared.IsdAsn.{IsdAsn}
 use Rattle.spec.specs.declared.Vertex.{Vertex}
@@ -254,11 +254,7 @@ module _ (b : List ℕ) (dst : IsdAsn) where
     second-other : f .core ≡ false → second ≡ (if arrives f then pair b dst e f ∷ [] else [])
     unfolding pair ending
     second-other q =
-        second-by false [] (ap (λ t. e .core && t) q ∙ never (e .core)) (last-nothing (ap (λ t. not (e .core) && t) q ∙ never (not (e .core))))
-      where
-        never : (s : Bool) → (s && false) ≡ false
-        never true = refl
-        never false = refl
+        second-by false [] (ap (λ t. e .core && t) q ∙ and-false (e .core)) (last-nothing (ap (λ t. not (e .core) && t) q ∙ and-false (not (e .core))))
 
   module _ (e : Edge) where
     -- what is allowed of the ways that go on from e with one of a list of edges

@@ -27,7 +27,7 @@ use Rattle.graph.specs.Search.{isAs, endsAtAs, overFirsts, pair, triple,
 use Rattle.spec.proofs.Lists.{flatMap-append}
 use Rattle.spec.proofs.Membership.{not-both}
 use Rattle.graph.proofs.LookupLaws.{core-leaving}
-use Rattle.graph.proofs.LookupReads.{other-leaf, none-arrives, none-leaves, empty-leaving}
+use Rattle.graph.proofs.EdgeReads.{other-leaf, none-arrives, none-leaves, empty-leaving}
 use Rattle.graph.proofs.SearchLists.{range-turn}
 use Rattle.graph.proofs.SearchLaws.{over-split, over-none, from-arrived, from-onward}
 

@@ -38,30 +38,12 @@ fn core_edge(book: &[u8], table: &[u16; PLACES], n: u8, id: SolutionEdge) -> Fou
     let first = opened::as_at(book, table, k, 0);
     let last = opened::as_at(book, table, k, n - 1);
     if id.construction {
-        return Found::Edge(Edge {
-            src: Vertex::AS(first),
-            dst: Vertex::AS(last),
-            weight: n - 1,
-            shortcut: 0,
-            peer: 0,
-            position: k,
-            construction: true,
-            core: true,
-        });
+        return Found::Edge(edges::edge_of_core(k, n, first, last, true));
     }
     if vertices::same_as(first, last) {
         return Found::Nothing;
     }
-    Found::Edge(Edge {
-        src: Vertex::AS(last),
-        dst: Vertex::AS(first),
-        weight: n - 1,
-        shortcut: 0,
-        peer: 0,
-        position: k,
-        construction: false,
-        core: true,
-    })
+    Found::Edge(edges::edge_of_core(k, n, last, first, false))
 }
 
 // ---- an AS edge

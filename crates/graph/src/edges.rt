@@ -220,6 +220,23 @@ fn joins(first: IsdAsn, last: IsdAsn, a: IsdAsn, c: IsdAsn) -> bool
     both_same(last, a, first, c)
 }
 
+// The edge of the core segment at k, of n entries, from its one end to the other.
+pub(crate) fn edge_of_core(k: u8, n: u8, from: IsdAsn, to: IsdAsn, construction: bool) -> Edge
+    requires { ⌜ 0 < n ⌝ }
+    ensures { λ r. ⌜ r ≡ record { src = AS from; dst = AS to; weight = n - 1; shortcut = 0; peer = 0; position = k; construction = construction; core = true } ⌝ }
+{
+    Edge {
+        src: Vertex::AS(from),
+        dst: Vertex::AS(to),
+        weight: n - 1,
+        shortcut: 0,
+        peer: 0,
+        position: k,
+        construction: construction,
+        core: true,
+    }
+}
+
 fn core_between(
     book: &[u8],
     table: &[u16; PLACES],
@@ -238,16 +255,7 @@ fn core_between(
         return Found::Nothing;
     };
     if joins(opened::as_at(book, table, k, 0), last, a, w) {
-        return Found::Edge(Edge {
-            src: v,
-            dst: Vertex::AS(w),
-            weight: n - 1,
-            shortcut: 0,
-            peer: 0,
-            position: k,
-            construction: vertices::same_as(w, last),
-            core: true,
-        });
+        return Found::Edge(edge_of_core(k, n, a, w, vertices::same_as(w, last)));
     }
     Found::Nothing
 }
@@ -292,28 +300,10 @@ pub(crate) fn core_leaving(book: &[u8], table: &[u16; PLACES], k: u8, v: Vertex)
     let first = opened::as_at(book, table, k, 0);
     let last = opened::as_at(book, table, k, n - 1);
     if vertices::same_as(first, a) {
-        return Found::Edge(Edge {
-            src: Vertex::AS(first),
-            dst: Vertex::AS(last),
-            weight: n - 1,
-            shortcut: 0,
-            peer: 0,
-            position: k,
-            construction: true,
-            core: true,
-        });
+        return Found::Edge(edge_of_core(k, n, first, last, true));
     }
     if vertices::same_as(last, a) {
-        return Found::Edge(Edge {
-            src: Vertex::AS(last),
-            dst: Vertex::AS(first),
-            weight: n - 1,
-            shortcut: 0,
-            peer: 0,
-            position: k,
-            construction: false,
-            core: true,
-        });
+        return Found::Edge(edge_of_core(k, n, last, first, false));
     }
     Found::Nothing
 }

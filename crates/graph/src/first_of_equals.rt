@@ -1,5 +1,5 @@
-// The first of equal segments, in an opened book. Few segments have the timestamp, id and entry count of another and the same
-// bytes of its first entry, so that few are compared.
+// The first of equal segments, in an opened book. Few segments have the timestamp, id and entry count of another and
+// the same bytes of its first entry, so that few are compared.
 ghost use mathlib.Core.Path.{_≡_};
 ghost use mathlib.Core.Bool.{true};
 ghost use Prim.Native.Nat.{_≤_, _<_};
@@ -36,8 +36,8 @@ const EGRESS_LOW: usize = AsEntry::EGRESS + 1;
 
 const MAC_LAST: usize = AsEntry::MAC + HopField::MAC - 1;
 
-// Of a segment's first entry the low byte of the egress, the units and the MAC: one number. Where the segment has no entry, the
-// table has 0, and bytes of the book are as good.
+// Of a segment's first entry the low byte of the egress, the units and the MAC: one number. Where the segment has no
+// entry, the table has 0, and the bytes there are the same for all such segments.
 fn entry_word(book: &[u8], table: &[u16; PLACES], k: usize) -> u64
     requires { ⌜ Ready (now book) (now table) ⌝ }
     requires { ⌜ k < segmentCount (now book) ⌝ }
@@ -108,8 +108,8 @@ fn none_from(book: &[u8], table: &[u16; PLACES], k: u8, from: usize) -> bool
     true
 }
 
-// No equal segment stands at a lower position. Mostly none is alike, and what is rare stands in a function of its own, so that this
-// one is short.
+// No equal segment stands at a lower position. Mostly no other is alike; what is rare stands in `none_from`, so that
+// the compiler inlines this function.
 pub(crate) fn is_first(book: &[u8], table: &[u16; PLACES], k: u8) -> bool
     requires { ⌜ Ready (now book) (now table) ⌝ }
     requires { ⌜ k < segmentCount (now book) ⌝ }
@@ -159,8 +159,8 @@ fn mark_of(book: &[u8], table: &[u16; PLACES], k: u8) -> u8
     ((low + egress + mac) % 256) as u8
 }
 
-// 1 where the segment at k is the first of its equals, else 0. Equal segments have one mark: it is the first where its mark was
-// not seen before.
+// 1 where the segment at k is the first of its equals, else 0. Equal segments have one mark: it is the first where its
+// mark was not seen before.
 fn first_at(book: &[u8], table: &[u16; PLACES], k: u8, seen: u8) -> u8
     requires { ⌜ Ready (now book) (now table) ⌝ }
     requires { ⌜ k < segmentCount (now book) ⌝ }

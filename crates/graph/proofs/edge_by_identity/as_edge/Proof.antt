@@ -2,7 +2,7 @@
 -- Assumes nothing.
 use native.Mathlib.Omega.{arith}
 use Rattle.graph.specs.Lookup.{foundEdges}
-use Rattle.graph.proofs.LookupReads.{leaf-read}
+use Rattle.graph.proofs.OpenedReads.{leaf-read}
 use Rattle.graph.proofs.IdentityReads.{leaf-named, again-named, as-there, as-one, as-back}
 use borrow.Author.Needs.{needs}
 use Rattle.graph.proofs.edge_by_identity.as_edge.Statement.{statement}

@@ -2,7 +2,8 @@
 -- Assumes nothing.
 use native.Mathlib.Omega.{arith}
 use Rattle.graph.specs.Lookup.{foundEdges}
-use Rattle.graph.proofs.LookupReads.{leaf-read, up-leaf, up-again, up-made}
+use Rattle.graph.proofs.OpenedReads.{leaf-read}
+use Rattle.graph.proofs.EdgeReads.{up-leaf, up-again, up-made}
 use borrow.Author.Needs.{needs}
 use Rattle.graph.proofs.edges.as_up.Statement.{statement}
 use Rattle.graph.proofs.edges.as_up.Tie as tie

@@ -3,7 +3,8 @@
 use native.Mathlib.Omega.{arith}
 use mathlib.Core.Path.{sym, _∙_}
 use Rattle.graph.specs.Lookup.{foundEdges}
-use Rattle.graph.proofs.LookupReads.{leaf-read, empty-between}
+use Rattle.graph.proofs.OpenedReads.{leaf-read}
+use Rattle.graph.proofs.EdgeReads.{empty-between}
 use Rattle.graph.proofs.EdgeFoundLaws.{none-whole, edge-whole}
 use borrow.Author.Needs.{needs}
 use Rattle.graph.proofs.edges.between.Statement.{statement}

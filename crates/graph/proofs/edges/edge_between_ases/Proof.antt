@@ -2,7 +2,8 @@
 -- Assumes nothing.
 use native.Mathlib.Omega.{arith}
 use mathlib.Core.Path.{refl}
-use Rattle.graph.proofs.LookupReads.{leaf-read, empty-between}
+use Rattle.graph.proofs.OpenedReads.{leaf-read}
+use Rattle.graph.proofs.EdgeReads.{empty-between}
 use Rattle.graph.proofs.EdgeFoundLaws.{whole-none, join-to, join-from, join-none}
 use borrow.Author.Needs.{needs}
 use Rattle.graph.proofs.edges.edge_between_ases.Statement.{statement}

@@ -1,7 +1,8 @@
 -- No entries, or by the leaf.
 -- Assumes nothing.
 use native.Mathlib.Omega.{arith}
-use Rattle.graph.proofs.LookupReads.{leaf-read, empty-between}
+use Rattle.graph.proofs.OpenedReads.{leaf-read}
+use Rattle.graph.proofs.EdgeReads.{empty-between}
 use Rattle.graph.proofs.EdgeFoundLaws.{whole-none}
 use borrow.Author.Needs.{needs}
 use Rattle.graph.proofs.edges.edge_to_as.Statement.{statement}

@@ -1,6 +1,6 @@
 -- `joins` meets its contract.
 -- Assumes nothing.
-use Rattle.graph.proofs.LookupReads.{joins-first, joins-second}
+use Rattle.graph.proofs.EdgeReads.{joins-first, joins-second}
 use borrow.Author.Needs.{needs}
 use Rattle.graph.proofs.edges.joins.Statement.{statement}
 use Rattle.graph.proofs.edges.joins.Tie as tie

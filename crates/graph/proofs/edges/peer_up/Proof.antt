@@ -1,7 +1,8 @@
 -- `peer_up` meets its contract.
 -- Assumes nothing.
 use Rattle.graph.specs.Lookup.{foundEdges}
-use Rattle.graph.proofs.LookupReads.{leaf-read, link-some, up-later, up-lower, peer-up-made}
+use Rattle.graph.proofs.OpenedReads.{leaf-read}
+use Rattle.graph.proofs.EdgeReads.{link-some, up-later, up-lower, peer-up-made}
 use borrow.Author.Needs.{needs}
 use Rattle.graph.proofs.edges.peer_up.Statement.{statement}
 use Rattle.graph.proofs.edges.peer_up.Tie as tie

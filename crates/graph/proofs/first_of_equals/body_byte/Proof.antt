@@ -1,7 +1,7 @@
 -- No entries, no bytes; or the byte read past the start of the first entry.
 -- Assumes nothing.
 use native.Mathlib.Omega.{arith}
-use Rattle.graph.proofs.LookupReads.{position-below, entry-within}
+use Rattle.graph.proofs.OpenedReads.{position-below, entry-within}
 use Rattle.graph.proofs.FirstOfEqualsLaws.{byte-none, byte-read, some-entry}
 use borrow.Author.Needs.{needs}
 use Rattle.graph.proofs.first_of_equals.body_byte.Statement.{statement}

@@ -5,7 +5,7 @@ use mathlib.Core.Path.{ap, _∙_}
 use Prim.Native.Nat.{_+_}
 use Rattle.spec.specs.Octets.{be64}
 use Rattle.graph.specs.FirstOfEquals.{egressLow, entryWordAt}
-use Rattle.graph.proofs.LookupReads.{position-below}
+use Rattle.graph.proofs.OpenedReads.{position-below}
 use Rattle.graph.proofs.FirstOfEqualsLaws.{word-inside}
 use borrow.Author.Needs.{needs}
 use Rattle.graph.proofs.first_of_equals.entry_word.Statement.{statement}

@@ -3,7 +3,7 @@
 use native.Mathlib.Omega.{arith}
 use mathlib.Core.Path.{sym, ap, _∙_}
 use Rattle.spec.specs.Book.{isdAsnAt}
-use Rattle.graph.proofs.LookupReads.{position-below, count-most, entry-within, as-read}
+use Rattle.graph.proofs.OpenedReads.{position-below, count-most, entry-within, as-read}
 use Rattle.graph.proofs.opened.as_at.Statement.{statement}
 use Rattle.graph.proofs.opened.as_at.Tie as tie
 

@@ -1,7 +1,7 @@
 -- `count_of` meets its contract.
 -- Assumes nothing.
 use native.Mathlib.Omega.{arith}
-use Rattle.graph.proofs.LookupReads.{count-place, count-low, count-most}
+use Rattle.graph.proofs.OpenedReads.{count-place, count-low, count-most}
 use borrow.Author.Needs.{needs}
 use Rattle.graph.proofs.opened.count_of.Statement.{statement}
 use Rattle.graph.proofs.opened.count_of.Tie as tie

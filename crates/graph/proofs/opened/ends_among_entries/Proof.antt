@@ -4,7 +4,7 @@ use Prim.Native.Nat.{_-_, _≤_}
 use native.Mathlib.Omega.{arith}
 use mathlib.Core.Path.{_≡_}
 use Rattle.spec.specs.Book.{segmentAt}
-use Rattle.graph.proofs.LookupReads.{hasBelow, below-none, below-turn, below-all}
+use Rattle.graph.proofs.OpenedReads.{hasBelow, below-none, below-turn, below-all}
 use borrow.Author.Needs.{needs}
 use Rattle.graph.proofs.opened.ends_among_entries.Statement.{statement}
 use Rattle.graph.proofs.opened.ends_among_entries.Tie as tie

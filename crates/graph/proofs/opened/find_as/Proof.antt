@@ -7,7 +7,7 @@ use Rattle.spec.specs.Book.{segmentAt}
 use Rattle.graph.specs.Leaving.{isEntryOf}
 use Rattle.graph.specs.Scan.{entryWith}
 use Rattle.graph.proofs.LookupScan.{Scanning, scan-start, scan-stop, scan-turn, scan-end}
-use Rattle.graph.proofs.LookupReads.{entry-test}
+use Rattle.graph.proofs.OpenedReads.{entry-test}
 use Rattle.graph.proofs.opened.find_as.Statement.{statement}
 use Rattle.graph.proofs.opened.find_as.Tie as tie
 

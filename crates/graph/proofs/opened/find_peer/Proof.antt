@@ -9,7 +9,7 @@ use Rattle.graph.specs.Leaving.{peerCountOf, isLink}
 use Rattle.graph.specs.Scan.{peerLinked}
 use Rattle.graph.specs.Link.{endOf}
 use Rattle.graph.proofs.LookupScan.{Sinking, sink-start, sink-stop, sink-turn, sink-end}
-use Rattle.graph.proofs.LookupReads.{position-below, count-most, entry-within, peer-within, peers-read, here-test, peer-test, link-none}
+use Rattle.graph.proofs.OpenedReads.{position-below, count-most, entry-within, peer-within, peers-read, here-test, peer-test, link-none}
 use Rattle.graph.proofs.opened.find_peer.Statement.{statement}
 use Rattle.graph.proofs.opened.find_peer.Tie as tie
 

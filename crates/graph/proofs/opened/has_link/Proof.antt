@@ -2,7 +2,7 @@
 -- Assumes nothing.
 use borrow.Author.Needs.{needs}
 use borrow.Author.Tests.{not-true}
-use Rattle.graph.proofs.LookupReads.{link-other, link-told}
+use Rattle.graph.proofs.OpenedReads.{link-other, link-told}
 use Rattle.graph.proofs.opened.has_link.Statement.{statement}
 use Rattle.graph.proofs.opened.has_link.Tie as tie
 

@@ -1,6 +1,6 @@
 -- `is_core` meets its contract.
 -- Assumes nothing.
-use Rattle.graph.proofs.LookupReads.{core-read}
+use Rattle.graph.proofs.OpenedReads.{core-read}
 use borrow.Author.Needs.{needs}
 use Rattle.graph.proofs.opened.is_core.Statement.{statement}
 use Rattle.graph.proofs.opened.is_core.Tie as tie

@@ -4,7 +4,7 @@ use mathlib.Core.Path.{ap, _∙_}
 use Prim.Native.Nat.{_-_}
 use Rattle.spec.specs.Book.{segmentAt}
 use Rattle.spec.specs.Edges.{asOf}
-use Rattle.graph.proofs.LookupReads.{leaf-is}
+use Rattle.graph.proofs.OpenedReads.{leaf-is}
 use borrow.Author.Needs.{needs}
 use Rattle.graph.proofs.opened.leaf_as.Statement.{statement}
 use Rattle.graph.proofs.opened.leaf_as.Tie as tie

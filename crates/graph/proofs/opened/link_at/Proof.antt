@@ -1,7 +1,7 @@
 -- `link_at` meets its contract.
 -- Assumes nothing.
 use native.Mathlib.Omega.{arith}
-use Rattle.graph.proofs.LookupReads.{position-below, count-most, entry-within, peer-within, link-read}
+use Rattle.graph.proofs.OpenedReads.{position-below, count-most, entry-within, peer-within, link-read}
 use borrow.Author.Needs.{needs}
 use Rattle.graph.proofs.opened.link_at.Statement.{statement}
 use Rattle.graph.proofs.opened.link_at.Tie as tie

@@ -3,7 +3,7 @@
 use native.Mathlib.Omega.{arith}
 use mathlib.Core.Path.{sym, ap, _∙_}
 use Rattle.spec.specs.Book.{peerCount}
-use Rattle.graph.proofs.LookupReads.{position-below, count-most, entry-within, peers-read}
+use Rattle.graph.proofs.OpenedReads.{position-below, count-most, entry-within, peers-read}
 use borrow.Author.Needs.{needs}
 use Rattle.graph.proofs.opened.peer_count.Statement.{statement}
 use Rattle.graph.proofs.opened.peer_count.Tie as tie

@@ -1,6 +1,6 @@
 -- `same_peer` meets its contract.
 -- Assumes nothing.
-use Rattle.graph.proofs.LookupReads.{peer-ingress, peer-interface, peer-same}
+use Rattle.graph.proofs.OpenedReads.{peer-ingress, peer-interface, peer-same}
 use borrow.Author.Needs.{needs}
 use Rattle.graph.proofs.opened.same_peer.Statement.{statement}
 use Rattle.graph.proofs.opened.same_peer.Tie as tie

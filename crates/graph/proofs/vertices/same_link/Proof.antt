@@ -2,7 +2,7 @@
 -- Assumes nothing.
 use mathlib.Core.Path.{sym, _∙_}
 use borrow.Author.Tests.{not-true, not-false}
-use Rattle.graph.proofs.LookupReads.{links-ingress, links-interface, links-local, links-peer}
+use Rattle.graph.proofs.VertexTests.{links-ingress, links-interface, links-local, links-peer}
 use borrow.Author.Needs.{needs}
 use Rattle.graph.proofs.vertices.same_link.Statement.{statement}
 use Rattle.graph.proofs.vertices.same_link.Tie as tie

@@ -2,7 +2,7 @@
 -- Assumes nothing.
 use mathlib.Core.Path.{sym, ap₂, _∙_}
 use Rattle.spec.specs.Edges.{sameVertex}
-use Rattle.graph.proofs.LookupReads.{as-as, as-peering, peering-as}
+use Rattle.graph.proofs.VertexTests.{as-as, as-peering, peering-as}
 use borrow.Author.Needs.{needs}
 use Rattle.graph.proofs.vertices.same_vertex.Statement.{statement}
 use Rattle.graph.proofs.vertices.same_vertex.Tie as tie
