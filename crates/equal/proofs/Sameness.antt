@@ -1,21 +1,19 @@
--- Equal segments: what each test of the comparison settles, and the turns of its loops.
+-- Equal segments: what each test of the comparison settles, and the turns of its loop.
 -- Assumes nothing.
 use mathlib.Core.Path.{_≡_, refl, sym, ap, ap₂, _∙_}
-use mathlib.Core.Bool.{Bool, true, false, _&&_, not}
-use mathlib.Core.List.{List, [], _∷_, map}
-use Prim.Native.Nat.{ℕ, zero, suc, _+_, _-_, _*_, _^_, _≤_, _<_, min}
+use mathlib.Core.Bool.{Bool, true, false, _&&_}
+use mathlib.Core.List.{List, [], _∷_}
+use Prim.Native.Nat.{ℕ, suc, _+_, _-_, _≤_, _<_, min}
 use native.Mathlib.Omega.{arith}
 use lib.ListN.{length, getD, take, drop, length-take, length-drop, drop-of-length-le}
 use lib.Seq.{drop-cons, take-all}
 use lib.Dec.{ltb, eqb}
-use borrow.Author.Tests.{lt-ltb, le-ltb, ltb-true, ltb-false, eq-eqb, ne-eqb, eqb-true}
-use Rattle.spec.specs.Limits.{sizesSize, headSize}
-use Rattle.spec.specs.Octets.{be16, be32}
-use Rattle.spec.specs.Basics.{any, range, sameList}
-use Rattle.spec.specs.Book.{cores, segmentCount, headOffset, timestampAt, idAt, bodyLengthAt, bodyOffset, segmentAt, segments}
-use Rattle.spec.specs.Edges.{sameBool, sameSegment, isEarlier, isFirst}
-use Rattle.equal.specs.Same.{keyAt, sameParts}
-use Rattle.segment.proofs.Positions.{one-less, any-next, any-none, any-done}
+use borrow.Author.Tests.{ltb-true, ltb-false, eq-eqb, ne-eqb}
+use Rattle.spec.specs.Basics.{sameList}
+use Rattle.spec.specs.Book.{cores, timestampAt, idAt, bodyLengthAt, bodyOffset, segmentAt}
+use Rattle.spec.specs.Edges.{sameBool, sameSegment}
+use Rattle.equal.specs.Same.{sameParts}
+use Rattle.segment.proofs.Positions.{one-less}
 
 -- ---- bytes
 
@@ -104,7 +102,7 @@ same-length (x ∷ xs) (y ∷ ys) q = ap suc (same-length xs ys (go (eqb x y) (s
     go true t p = p
     go false t p = let z : _≡_ {A = ℕ} 0 1 = cc in absurd (omega arith)
 
-false-from : (t : Bool) → (t ≡ true → ⊥) → t ≡ false
+pub false-from : (t : Bool) → (t ≡ true → ⊥) → t ≡ false
 false-from true f = absurd (f refl)
 false-from false f = refl
 
@@ -161,98 +159,3 @@ module _ (b : List ℕ) (j k : ℕ) where
     by-bodies i p q t h em en ea es r =
         segment-is b j k
         ∙ rw (sym e ∙ h, eq-eqb (timestampAt b j) (timestampAt b k) (sym p ∙ t ∙ q), eq-eqb (idAt b j) (idAt b k) i) (cc)
-
--- ---- the first of equals
-
--- the segment at j is equal to the one at k and stands before it
-pub repeats : List ℕ → ℕ → ℕ → Bool
-repeats b k j = isEarlier (segmentAt b k) (segmentAt b j)
-
-any-map : {A B : Type 0} (p : B → Bool) (f : A → B) (xs : List A) → any p (map f xs) ≡ any (λ x. p (f x)) xs
-unfolding any
-any-map p f [] = refl
-any-map p f (x ∷ xs) = rw (any-map p f xs)
-
-pub first-all : (b : List ℕ) (k : ℕ) → isFirst (segments b) (segmentAt b k) ≡ not (any (repeats b k) (range 0 (segmentCount b - 0)))
-unfolding isFirst segments repeats
-first-all b k =
-    let e : segmentCount b - 0 ≡ segmentCount b = omega arith in
-    rw e (ap not (any-map (isEarlier (segmentAt b k)) (segmentAt b) (range 0 (segmentCount b))))
-
-module _ (b : List ℕ) (k j : ℕ) where
-  pub repeats-is : j < k → repeats b k j ≡ sameSegment (segmentAt b k) (segmentAt b j)
-  unfolding repeats isEarlier segmentAt
-  repeats-is h = rw (lt-ltb j k h)
-
-  repeats-not : k ≤ j → repeats b k j ≡ false
-  unfolding repeats isEarlier segmentAt
-  repeats-not h = rw (le-ltb j k h)
-
-none-from : (b : List ℕ) (k j n : ℕ) → min k n ≤ j → any (repeats b k) (range j (n - j)) ≡ false
-none-from b k j n h = go (ltb j k) refl
-  where
-    go : (t : Bool) → ltb j k ≡ t → any (repeats b k) (range j (n - j)) ≡ false
-    go true q = let l : j < k = ltb-true _ _ q in any-done (repeats b k) n j (omega arith)
-    go false q = let l : k ≤ j = ltb-false _ _ q in any-none (repeats b k) j (n - j) (λ i g. repeats-not b k i (omega arith))
-
--- the positions that could repeat the segment at k: those below k and the book's count
-module _ (b : List ℕ) (k j : ℕ) {count all : ℕ} (ec : count ≡ min k all) (ea : all ≡ segmentCount b) where
-  pub below-both : j < count → (j < k) × (j < segmentCount b)
-  below-both h = (omega arith, omega arith)
-
-  pub repeats-done : count ≤ j → any (repeats b k) (range j (segmentCount b - j)) ≡ false
-  repeats-done h = none-from b k j (segmentCount b) (omega arith)
-
--- ---- positions that are passed over
-
--- a key, of the timestamp and the id that the code read
-pub key-read : (b : List ℕ) (k : ℕ) {x y t i : ℕ} → t ≡ timestampAt b k → i ≡ idAt b k → x ≡ t → y ≡ i → x * 2 ^ 16 + y ≡ keyAt b k
-unfolding keyAt
-key-read b k p q e f = ap₂ (λ u v. u * 2 ^ 16 + v) (e ∙ p) (f ∙ q)
-
--- and the id of a head by its bytes
-pub id-bytes : (b : List ℕ) (at : ℕ) → be16 b (at + 4) ≡ getD b (at + 4) 0 * 2 ^ 8 + getD b (at + 5) 0
-unfolding be16
-id-bytes b at =
-    let e : at + 4 + 1 ≡ at + 5 = omega arith in
-    ap (λ m. getD b (at + 4) 0 * 2 ^ 8 + getD b m 0) e
-
--- the positions from an earlier one up to j, and j itself, have other keys
-pub none-more : (b : List ℕ) (from j : ℕ) {x own : ℕ} → ((i : ℕ) → from ≤ i → i < j → keyAt b i ≡ own → ⊥)
-    → x ≡ be32 b (sizesSize + headSize * j) * 2 ^ 16 + be16 b (sizesSize + headSize * j + 4) → (x ≡ own → ⊥)
-    → (i : ℕ) → from ≤ i → i < j + 1 → keyAt b i ≡ own → ⊥
-unfolding keyAt timestampAt idAt headOffset
-none-more b from j {x} {own} none p d i l h = go (ltb i j) refl
-  where
-    go : (t : Bool) → ltb i j ≡ t → keyAt b i ≡ own → ⊥
-    go true e r = none i l (ltb-true _ _ e) r
-    go false e r =
-        let g : j ≤ i = ltb-false _ _ e in
-        let s : i ≡ j = omega arith in
-        d (p ∙ sym (ap (keyAt b) s) ∙ r)
-
--- a test that fails from i up to j
-any-skip : (p : ℕ → Bool) (n i j : ℕ) → i ≤ j → j ≤ n → ((m : ℕ) → i ≤ m → m < j → p m ≡ false) → any p (range i (n - i)) ≡ any p (range j (n - j))
-any-skip p n i j h g none = go (j - i) i (omega arith) none
-  where
-    go : (d i : ℕ) → i + d ≡ j → ((m : ℕ) → i ≤ m → m < j → p m ≡ false) → any p (range i (n - i)) ≡ any p (range j (n - j))
-    go zero i e f =
-        let q : i ≡ j = omega arith in
-        ap (λ m. any p (range m (n - m))) q
-    go (suc d) i e f = any-next p n i (omega arith) (f i (omega arith) (omega arith)) ∙ go d (i + 1) (omega arith) (λ m a l. f m (omega arith) l)
-
--- positions with other keys do not repeat the segment at k
-other-key : (b : List ℕ) (j k : ℕ) → (keyAt b k ≡ keyAt b j → ⊥) → sameSegment (segmentAt b j) (segmentAt b k) ≡ false
-unfolding keyAt
-other-key b j k d = go (eqb (idAt b j) (idAt b k)) refl
-  where
-    go : (t : Bool) → eqb (idAt b j) (idAt b k) ≡ t → sameSegment (segmentAt b j) (segmentAt b k) ≡ false
-    go false q = other-id b j k refl refl (λ e. let z : true ≡ false = sym (eq-eqb (idAt b j) (idAt b k) e) ∙ q in let y : _≡_ {A = ℕ} 0 1 = cc in absurd (omega arith))
-    go true q = other-time b j k refl refl (λ e. d (ap₂ (λ u v. u * 2 ^ 16 + v) (sym e) (sym (eqb-true (idAt b j) (idAt b k) q))))
-
-pub keys-skipped : (b : List ℕ) (k i j : ℕ) {count all own : ℕ} → count ≡ min k all → all ≡ segmentCount b → own ≡ keyAt b k
-    → i ≤ j → j ≤ count → ((m : ℕ) → i ≤ m → m < j → keyAt b m ≡ own → ⊥)
-    → any (repeats b k) (range i (segmentCount b - i)) ≡ any (repeats b k) (range j (segmentCount b - j))
-keys-skipped b k i j ec ea eo h g none =
-    any-skip (repeats b k) (segmentCount b) i j h (omega arith) (λ m a l.
-    repeats-is b k m (omega arith) ∙ other-key b k m (λ e. none m a l (e ∙ sym eo)))

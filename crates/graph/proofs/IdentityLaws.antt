@@ -6,7 +6,7 @@ use native.Mathlib.Decide.{ℕ-discrete}
 use native.Mathlib.Omega.{arith}
 use mathlib.Core.Path.{_≡_, refl, sym, ap, ap₂, _∙_, subst}
 use mathlib.Core.Logic.{_⊎_, inl, inr, ⊎-elim}
-use mathlib.Core.Bool.{Bool, true, false, _&&_, not}
+use mathlib.Core.Bool.{Bool, true, false, _&&_}
 use mathlib.Core.List.{List, [], _∷_, reverse, List·Memᴰ as Mem, List·Memᴰ·head as head, List·Memᴰ·tail as tail, List·Memᴰ·not-nil as not-nil, List·Memᴰ·cases-cons as cases-cons, List·Memᴰ·append-cases as append-cases}
 use lib.ListN.{length}
 use lib.Dec.{eqb}
@@ -23,29 +23,25 @@ use Rattle.spec.specs.Order.{solutionEdge}
 use Rattle.spec.proofs.Membership.{and-true, not-both, filter-mem, mem-filter, flatMap-mem, once-filter}
 use Rattle.spec.proofs.Vertices.{sameVertex-eq, sameVertex-refl}
 use Rattle.spec.proofs.OnceLaws.{lasting-mem, once-lasting, inserted}
-use Rattle.graph.specs.declared.Found.{Found}
-use Rattle.graph.specs.declared.Found.the-variants.{Edge as FoundEdge, Nothing}
+use Rattle.graph.specs.declared.edges.Found.{Found}
+use Rattle.graph.specs.declared.edges.Found.the-variants.{Edge as FoundEdge, Nothing}
 use Rattle.graph.specs.Lookup.{between, foundEdges}
 use Rattle.graph.specs.Leaving.{entryCount, peerCountOf, linkOf, asStands, peerUp}
 use Rattle.graph.specs.Scan.{entryWith, asEdgeAt}
-use Rattle.graph.specs.declared.edges.Link.{Link}
+use Rattle.graph.specs.declared.vertices.Link.{Link}
 use Rattle.graph.specs.Link.{endOf, farEndOf}
-use Rattle.graph.specs.Identity.{sameIdentity, hasIdentity, identified, farLinkOf, peerNamed}
+use Rattle.graph.specs.Identity.{sameIdentity, hasIdentity, identified, farLinkOf, overPeer}
 use Rattle.graph.proofs.LookupLaws.{as-not-peering, one-is, stored-between, between-stored, as-other, as-leaf, peer-two, entry-parts, insertions-other, insertions-core, core-none, up-as, down-as}
+use Rattle.graph.proofs.VertexTests.{second-fails}
 use Rattle.graph.proofs.LeavingLaws.{peer-up-mem, peer-stored, peer-given, between-mem, as-edge-one, as-first}
 
 -- ---- identities
 
-fails-second : (x y z u : Bool) → y ≡ false → false ≡ (((x && y) && z) && u)
-fails-second true true z u q = not-both refl q
-fails-second true false z u q = refl
-fails-second false y z u q = refl
-
-fails-third : (x y z u : Bool) → z ≡ false → false ≡ (((x && y) && z) && u)
-fails-third true true true u q = not-both refl q
-fails-third true true false u q = refl
-fails-third true false z u q = refl
-fails-third false y z u q = refl
+third-fails : (x y z u : Bool) → z ≡ false → false ≡ (((x && y) && z) && u)
+third-fails true true true u q = not-both refl q
+third-fails true true false u q = refl
+third-fails true false z u q = refl
+third-fails false y z u q = refl
 
 bool-eq : (s t : Bool) → sameBool s t ≡ true → s ≡ t
 unfolding sameBool
@@ -67,11 +63,11 @@ module _ (x y : SolutionEdge) where
 
   pub other-shortcut : (x .shortcut ≡ y .shortcut → ⊥) → false ≡ sameIdentity x y
   unfolding sameIdentity
-  other-shortcut q = fails-second (eqb (x .position) (y .position)) _ _ _ (ne-eqb (x .shortcut) (y .shortcut) q)
+  other-shortcut q = second-fails (eqb (x .position) (y .position)) _ _ _ (ne-eqb (x .shortcut) (y .shortcut) q)
 
   pub other-peer : (x .peer ≡ y .peer → ⊥) → false ≡ sameIdentity x y
   unfolding sameIdentity
-  other-peer q = fails-third (eqb (x .position) (y .position)) (eqb (x .shortcut) (y .shortcut)) _ _ (ne-eqb (x .peer) (y .peer) q)
+  other-peer q = third-fails (eqb (x .position) (y .position)) (eqb (x .shortcut) (y .shortcut)) _ _ (ne-eqb (x .peer) (y .peer) q)
 
   pub by-direction : x .position ≡ y .position → x .shortcut ≡ y .shortcut → x .peer ≡ y .peer
       → {t : Bool} → t ≡ sameBool (x .construction) (y .construction) → t ≡ sameIdentity x y
@@ -94,7 +90,7 @@ module _ (x y : SolutionEdge) where
       let t : x .construction ≡ y .construction = bool-eq _ _ (a .1) in
       λ i. record { position = p i; shortcut = q i; peer = r i; construction = t i }
 
-pub identity-refl : (x : SolutionEdge) → sameIdentity x x ≡ true
+identity-refl : (x : SolutionEdge) → sameIdentity x x ≡ true
 identity-refl x = sym (by-direction x x refl refl refl (sym (bool-refl (x .construction))))
 
 pub has-identity : (id : SolutionEdge) (e : Edge) → hasIdentity id e ≡ true → solutionEdge e ≡ id
@@ -223,14 +219,14 @@ module _ (seg : Segment) where
   abbrev IdEnds : SolutionEdge → Edge → Type 0
   IdEnds id e = Ends (id .shortcut) (id .peer) (id .construction) e
 
-  pub ends-of : (id : SolutionEdge) {e : Edge} → Mem e (storedOf seg) → solutionEdge e ≡ id → IdEnds id e
+  pub begins-and-arrives : (id : SolutionEdge) {e : Edge} → Mem e (storedOf seg) → solutionEdge e ≡ id → IdEnds id e
   unfolding solutionEdge
-  ends-of id {e} m h = subst (λ d. IdEnds d e) h (ends m)
+  begins-and-arrives id {e} m h = subst (λ d. IdEnds d e) h (ends m)
 
-  pub same-edge : {e f : Edge} → Mem e (storedOf seg) → Mem f (storedOf seg) → solutionEdge e ≡ solutionEdge f → e ≡ f
+  same-edge : {e f : Edge} → Mem e (storedOf seg) → Mem f (storedOf seg) → solutionEdge e ≡ solutionEdge f → e ≡ f
   same-edge {e} {f} k l h =
       let id : SolutionEdge = solutionEdge f in
-      let w = same-ends (id .shortcut) (id .peer) (id .construction) e f (ends-of id k h) (ends-of id l refl) in
+      let w = same-ends (id .shortcut) (id .peer) (id .construction) e f (begins-and-arrives id k h) (begins-and-arrives id l refl) in
       let p : f ∷ [] ≡ e ∷ [] = sym (stored-between seg f l) ∙ ap₂ (between seg) (sym (w .0)) (sym (w .1)) ∙ stored-between seg e k in
       cc
 
@@ -238,12 +234,12 @@ module _ (seg : Segment) where
   unfolding identified
   identified-mem id {e} m = let w = filter-mem (hasIdentity id) (storedOf seg) m in (w .0, has-identity id e (w .1))
 
-  pub identified-one : (id : SolutionEdge) → length (identified seg id) ≤ 1
+  identified-one : (id : SolutionEdge) → length (identified seg id) ≤ 1
   identified-one id =
       all-same (identified seg id) (unfold identified storedOf in once-filter (hasIdentity id) _ (once-lasting (insertions seg)))
       (λ e f k l. let v = identified-mem id k in let w = identified-mem id l in same-edge (v .0) (w .0) (v .1 ∙ sym (w .1)))
 
-  pub stored-identified : (e : Edge) → Mem e (storedOf seg) → identified seg (solutionEdge e) ≡ e ∷ []
+  stored-identified : (e : Edge) → Mem e (storedOf seg) → identified seg (solutionEdge e) ≡ e ∷ []
   stored-identified e m =
       one-is e (identified seg (solutionEdge e)) (identified-one (solutionEdge e))
       (unfold identified in mem-filter (hasIdentity (solutionEdge e)) (storedOf seg) m (own-identity e))
@@ -291,7 +287,7 @@ module _ (seg : Segment) where
 
     as-ends : {t : Bool} → id .construction ≡ t → {e : Edge} → Mem e (storedOf seg) → solutionEdge e ≡ id → Ends (id .shortcut) 0 t e
     as-ends d {e} m q =
-        subst (λ t. Ends (id .shortcut) 0 t e) d (subst (λ p. Ends (id .shortcut) p (id .construction) e) no-peer (ends-of id m q))
+        subst (λ t. Ends (id .shortcut) 0 t e) d (subst (λ p. Ends (id .shortcut) p (id .construction) e) no-peer (begins-and-arrives id m q))
 
     -- from the leaf to an entry of the leaf's AS: its edge is in construction direction
     pub leaf-again : id .construction ≡ false → sameAs (asOf seg (id .shortcut)) (leafAs seg) ≡ true → [] ≡ identified seg id
@@ -326,15 +322,15 @@ module _ (seg : Segment) where
   -- ---- peers' edges
 
   module _ (nc : seg .core ≡ false) (i p : ℕ) where
-    peers-stored : i < entryCount seg → p < peerCountOf seg i → (t : Bool) {e : Edge} → Mem e (peerNamed seg i p t) → Mem e (storedOf seg)
-    unfolding peerNamed
+    peers-stored : i < entryCount seg → p < peerCountOf seg i → (t : Bool) {e : Edge} → Mem e (overPeer seg i p t) → Mem e (storedOf seg)
+    unfolding overPeer
     peers-stored l g true m = between-stored seg (farLinkOf seg i p) leaf m .0
     peers-stored l g false {e} m =
         let w = peer-up-mem seg i p m in
         between-stored seg leaf (linkOf seg i p) (subst (Mem e) (sym (peer-stored seg nc i p l g (w .0))) (head (w .1))) .0
 
-    stored-peers : (t : Bool) {e : Edge} → Mem e (storedOf seg) → e .shortcut ≡ i → e .peer ≡ p + 1 → Ends i (suc p) t e → Mem e (peerNamed seg i p t)
-    unfolding peerNamed
+    stored-peers : (t : Bool) {e : Edge} → Mem e (storedOf seg) → e .shortcut ≡ i → e .peer ≡ p + 1 → Ends i (suc p) t e → Mem e (overPeer seg i p t)
+    unfolding overPeer
     stored-peers true m s q x = between-mem seg (farLinkOf seg i p) leaf m (x .0) (x .1)
     stored-peers false m s q x = peer-given seg nc i p m (x .0) s q
 
@@ -346,12 +342,12 @@ module _ (seg : Segment) where
   far-end i p m q = cc
 
   pub peer-down : (i p : ℕ) (m : Link) {last : IsdAsn} {t : Bool} → last ≡ leafAs seg → endOf m ≡ linkOf seg i p → t ≡ true
-      → between seg (farEndOf m) (AS last) ≡ peerNamed seg i p t
-  unfolding peerNamed
+      → between seg (farEndOf m) (AS last) ≡ overPeer seg i p t
+  unfolding overPeer
   peer-down i p m r q h = ap₂ (λ v w. between seg v (AS w)) (far-end i p m q) r ∙ ap (peer-either i p) (sym h)
 
-  pub peer-up : (i p : ℕ) {t : Bool} → t ≡ false → peerUp seg i p ≡ peerNamed seg i p t
-  unfolding peerNamed
+  pub peer-up : (i p : ℕ) {t : Bool} → t ≡ false → peerUp seg i p ≡ overPeer seg i p t
+  unfolding overPeer
   peer-up i p h = ap (peer-either i p) (sym h)
 
   found-in : {f : Found} {e : Edge} → f ≡ FoundEdge e → foundEdges f ≡ e ∷ []
@@ -359,7 +355,7 @@ module _ (seg : Segment) where
 
   module _ (id : SolutionEdge) (nc : seg .core ≡ false) (l : id .shortcut < entryCount seg) (some : 0 < id .peer) (few : id .peer ≤ peerCountOf seg (id .shortcut)) where
     abbrev named : List Edge
-    named = peerNamed seg (id .shortcut) (id .peer - 1) (id .construction)
+    named = overPeer seg (id .shortcut) (id .peer - 1) (id .construction)
 
     named-stored : {e : Edge} → Mem e named → Mem e (storedOf seg)
     named-stored m = peers-stored nc (id .shortcut) (id .peer - 1) l (omega arith) (id .construction) m
@@ -370,7 +366,7 @@ module _ (seg : Segment) where
         let s = said id e (w .1) in
         let q : id .peer ≡ suc (id .peer - 1) = omega arith in
         stored-peers nc (id .shortcut) (id .peer - 1) (id .construction) (w .0) (s .0) (omega (arith, s .1))
-        (subst (λ p. Ends (id .shortcut) p (id .construction) e) q (ends-of id (w .0) (w .1)))
+        (subst (λ p. Ends (id .shortcut) p (id .construction) e) q (begins-and-arrives id (w .0) (w .1)))
 
     module _ {f : Found} (found : foundEdges f ≡ named) where
       pub found-nothing : f ≡ Nothing → [] ≡ identified seg id

@@ -4,7 +4,7 @@ use Prim.Native.Nat.{ℕ, zero, suc, _+_, _-_, _<_}
 use native.Mathlib.Numerals.{add-one}
 use native.Mathlib.Omega.{arith}
 use mathlib.Core.Path.{_≡_, refl, sym, ap, ap₂, _∙_, subst}
-use mathlib.Core.Logic.{_⊎_, ⊎-elim}
+use mathlib.Core.Logic.{⊎-elim}
 use mathlib.Core.Bool.{Bool, true, false, _&&_, not}
 use mathlib.Core.List.{[], _∷_, flatMap, List·Memᴰ as Mem, List·Memᴰ·head as head, List·Memᴰ·not-nil as not-nil, List·Memᴰ·cases-cons as cases-cons, List·Memᴰ·append-cases as append-cases, Memᴰ·append-left, Memᴰ·append-right}
 use lib.Dec.{ltb, eqb}
@@ -29,11 +29,11 @@ use Rattle.graph.proofs.LookupLaws.{as-eq, eq-sameAs, eq-ends, between-
 
 -- ---- a list of at most one
 
-pub when-mem : (t : Bool) (f : Edge) {e : Edge} → Mem e (when t f) → (t ≡ true) × (e ≡ f)
+when-mem : (t : Bool) (f : Edge) {e : Edge} → Mem e (when t f) → (t ≡ true) × (e ≡ f)
 when-mem true f m = (refl, ⊎-elim (λ q. q) (λ l. absurd (not-nil l)) (cases-cons m))
 when-mem false f m = absurd (not-nil m)
 
-pub mem-when : (t : Bool) (f : Edge) {e : Edge} → t ≡ true → e ≡ f → Mem e (when t f)
+mem-when : (t : Bool) (f : Edge) {e : Edge} → t ≡ true → e ≡ f → Mem e (when t f)
 mem-when true f p q = head q
 mem-when false f p q = not-both p refl
 

@@ -59,7 +59,7 @@ module _ (b : List ℕ) (ok : verdict b ≡ Accepted) (src dst : IsdAsn) (out : 
   same-count = found-length b dst src sha256
 
   -- more chains than slots
-  pub list-full : (n : ℕ) (o : List ℕ) → _≡_ {A = Slots} (n, o) (pushed room (0, out) found) → room < n
+  list-full : (n : ℕ) (o : List ℕ) → _≡_ {A = Slots} (n, o) (pushed room (0, out) found) → room < n
       → listing sha256 b src dst (length out) ≡ (RefusedList Full, replicate (length out) 0)
   unfolding refusedList
   list-full n o e h = listing-on sha256 b src dst ok (length out) true (lt-ltb room (length sorted) (go (decLe (length found) room)))

@@ -5,7 +5,7 @@ use native.Mathlib.Numerals.{add-one}
 use native.Mathlib.Decide.{ℕ-discrete}
 use native.Mathlib.Omega.{arith}
 use mathlib.Core.Path.{_≡_, refl, sym, ap, ap₂, _∙_, subst}
-use mathlib.Core.Logic.{_⊎_, ⊎-elim}
+use mathlib.Core.Logic.{⊎-elim}
 use mathlib.Core.Bool.{Bool, true, false, _&&_, _||_}
 use mathlib.Core.List.{List, [], _∷_, _++_, flatMap, reverse, List·Memᴰ as Mem, List·Memᴰ·not-nil as not-nil, List·Memᴰ·cases-cons as cases-cons}
 use lib.ListN.{length}
@@ -104,7 +104,7 @@ module _ (t : Edge → Bool) where
 -- ---- the last insertion stands
 
 module _ (v w : Vertex) where
-  pub ends-eq : (e : Edge) → hasEnds v w e ≡ true → (e .src ≡ v) × (e .dst ≡ w)
+  ends-eq : (e : Edge) → hasEnds v w e ≡ true → (e .src ≡ v) × (e .dst ≡ w)
   unfolding hasEnds
   ends-eq e h =
       let q = and-true (sameVertex (e .src) v) (sameVertex (e .dst) w) h in
@@ -141,11 +141,11 @@ module _ (v w : Vertex) where
           ap (λ (x : Bool). if x then e ∷ filter (hasEnds v w) (lasting later) else filter (hasEnds v w) (lasting later)) r ∙ ih ∙ sym (orElse-nil _)
 
   module _ (seg : Segment) where
-    pub between-last : between seg v w ≡ lastBy (hasEnds v w) (insertions seg)
+    between-last : between seg v w ≡ lastBy (hasEnds v w) (insertions seg)
     unfolding between storedOf
     between-last = lasting-last (insertions seg)
 
-pub between-one : (seg : Segment) (v w : Vertex) → length (between seg v w) ≤ 1
+between-one : (seg : Segment) (v w : Vertex) → length (between seg v w) ≤ 1
 between-one seg v w = omega (arith, ap length (between-last v w seg), last-one (hasEnds v w) (insertions seg))
 
 -- a list of at most one edge, which is in it

@@ -5,7 +5,7 @@ use native.Mathlib.Nat.{add-zero}
 use native.Mathlib.Numerals.{add-one}
 use native.Mathlib.Omega.{arith}
 use mathlib.Core.Path.{_≡_, refl, sym, ap, ap₂, _∙_, subst}
-use mathlib.Core.Bool.{Bool, true, false, _||_, not}
+use mathlib.Core.Bool.{Bool, true, false, _||_}
 use mathlib.Core.List.{List, [], _∷_, _++_, flatMap, reverse, reverse-cons, append-nil}
 use lib.ListN.{length}
 use lib.Dec.{ltb}
@@ -188,7 +188,7 @@ module _ (p : ℕ → Bool) where
       go false h = ap (λ m. p m || ltb (firstWith p (i + 1) k) m) e ∙ h ∙ ap (ltb (firstWith p (i + 1) (suc k))) e′
 
   -- numbers that do not pass are passed over
-  pub first-skip : (i j k : ℕ) → any p (range i j) ≡ false → firstWith p i (j + k) ≡ firstWith p (i + j) k
+  first-skip : (i j k : ℕ) → any p (range i j) ≡ false → firstWith p i (j + k) ≡ firstWith p (i + j) k
   unfolding firstWith any range
   first-skip i zero k h =
       let e : i ≡ i + 0 = omega arith in
@@ -205,7 +205,7 @@ module _ (p : ℕ → Bool) where
       go false h ih = ih h ∙ ap (λ n. firstWith p n k) (omega arith)
 
   -- and none before the one found passes
-  pub first-before : (i j k : ℕ) → firstWith p i (j + k) ≡ i + j → any p (range i j) ≡ false
+  first-before : (i j k : ℕ) → firstWith p i (j + k) ≡ i + j → any p (range i j) ≡ false
   unfolding firstWith any range
   first-before i zero k h = refl
   first-before i (suc j) k h = go (p i) (ap (firstWith p i) (sym e) ∙ h) (first-before (i + 1) j k)
@@ -262,7 +262,7 @@ module _ (p : ℕ → Bool) where
   unfolding lastWith
   last-step j q = ap (λ x. if x then suc j else lastWith p j) q
 
-  pub last-skip : (j k : ℕ) → any p (range j k) ≡ false → lastWith p (j + k) ≡ lastWith p j
+  last-skip : (j k : ℕ) → any p (range j k) ≡ false → lastWith p (j + k) ≡ lastWith p j
   unfolding any range
   last-skip j zero h = ap (lastWith p) (omega arith)
   last-skip j (suc k) h = go (p j) refl h (last-skip (j + 1) k)
@@ -278,7 +278,7 @@ module _ (p : ℕ → Bool) where
   unfolding lastWith
   last-stop j q = ap (λ x. if x then suc j else lastWith p j) q
 
-  pub last-after : (j k : ℕ) → lastWith p (j + k) ≤ j → any p (range j k) ≡ false
+  last-after : (j k : ℕ) → lastWith p (j + k) ≤ j → any p (range j k) ≡ false
   unfolding any range
   last-after j zero h = refl
   last-after j (suc k) h = go (p j) refl (last-after (j + 1) k (omega (arith, g)))

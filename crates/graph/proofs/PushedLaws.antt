@@ -109,7 +109,7 @@ pushed-length slots n out (c ∷ cs) z h =
         ∙ ih (n + 1) (putAt out n (solutionOctets c)) (omega arith) ∙ e
 
 -- records that fill the slots from n on
-pub pushed-next : (slots n : ℕ) (done rest : List ℕ) (cs : List (List Edge)) → Sized cs → length done ≡ solutionSize * n → n + length cs ≤ slots
+pushed-next : (slots n : ℕ) (done rest : List ℕ) (cs : List (List Edge)) → Sized cs → length done ≡ solutionSize * n → n + length cs ≤ slots
     → pushed slots (n, done ++ rest) cs ≡ (n + length cs, (done ++ flatMap solutionOctets cs) ++ drop (solutionSize * length cs) rest)
 unfolding pushed pushOne flatMap
 pushed-next slots n done rest [] z e h =

@@ -1,41 +1,23 @@
 -- The bytes of a solution's record, and the record of a chain pushed.
 -- Assumes nothing.
-use Prim.Native.Nat.{ℕ, _+_, _*_, _-_, _/_, _%_, _^_, _≤_, _<_}
+use Prim.Native.Nat.{ℕ, _+_, _*_, _-_, _≤_, _<_}
 use native.Mathlib.Omega.{arith}
-use mathlib.Core.Path.{_≡_, refl, sym, ap, _∙_, subst}
-use mathlib.Core.List.{List, [], _∷_, _++_, map, flatMap}
+use mathlib.Core.Path.{_≡_, sym, ap, _∙_, subst}
+use mathlib.Core.List.{List, [], _∷_, _++_, map}
 use lib.ListN.{length, getD, set, take, drop, replicate}
 use lib.Seq.{take-all}
 use Rattle.spec.specs.declared.Edge.{Edge}
 use Rattle.spec.specs.declared.SolutionEdge.{SolutionEdge}
 use Rattle.spec.specs.declared.Solution.{Solution}
 use Rattle.spec.specs.Limits.{maxEdges, solutionSize}
-use Rattle.spec.specs.Basics.{range, padded}
-use Rattle.spec.specs.Octets.{octets2}
 use Rattle.spec.specs.Order.{cost, solutionEdge}
-use Rattle.spec.specs.Records.{bit, edgeOctets, edgeAt, noEdge, solutionOf, solutionOctets}
+use Rattle.spec.specs.Records.{noEdge, solutionOf}
+use Rattle.records.specs.Octets.{recordOctets}
+use Rattle.records.proofs.Octets.{record-length, record-of}
 use Rattle.output.specs.Write.{written}
 use Rattle.output.proofs.Writing.{copied, copied-more, written-within}
-use Rattle.graph.specs.Pushed.{Slots, putAt, edgeBytes, recordOctets, pushRecord, pushed, Pushes}
+use Rattle.graph.specs.Pushed.{Slots, putAt, pushRecord, pushed, Pushes}
 use Rattle.graph.proofs.PushedLaws.{record-room, pushed-one, pushed-most}
-
--- ---- bytes
-
-pub record-is : (s : Solution) (x y z : ℕ) → s .cost < 2 ^ 16
-    → x ≡ bit (getD (s .edges) 0 noEdge .construction) → y ≡ bit (getD (s .edges) 1 noEdge .construction) → z ≡ bit (getD (s .edges) 2 noEdge .construction)
-    → s .cost / 256 ∷ s .cost % 256 ∷ s .count ∷ 0
-    ∷ getD (s .edges) 0 noEdge .position ∷ getD (s .edges) 0 noEdge .shortcut ∷ getD (s .edges) 0 noEdge .peer ∷ x
-    ∷ getD (s .edges) 1 noEdge .position ∷ getD (s .edges) 1 noEdge .shortcut ∷ getD (s .edges) 1 noEdge .peer ∷ y
-    ∷ getD (s .edges) 2 noEdge .position ∷ getD (s .edges) 2 noEdge .shortcut ∷ getD (s .edges) 2 noEdge .peer ∷ z ∷ []
-    ≡ recordOctets s
-unfolding recordOctets edgeBytes edgeOctets octets2 range flatMap
-record-is s x y z h p q r =
-    let e : s .cost / 256 ≡ s .cost / 2 ^ 8 % 2 ^ 8 = omega arith in
-    cc
-
-pub record-length : (s : Solution) → length (recordOctets s) ≡ solutionSize
-unfolding recordOctets edgeBytes edgeOctets octets2 range flatMap
-record-length s = refl
 
 -- ---- the record of a chain
 
@@ -43,14 +25,6 @@ pub solution-is : (c : List Edge) (s : Solution) (w n : ℕ) (es : List Solution
     → w ≡ cost c → n ≡ length c → es ≡ map solutionEdge c ++ replicate (maxEdges - length c) noEdge → s ≡ solutionOf c
 unfolding solutionOf
 solution-is c s w n es e p q r = cc
-
-pub record-of : (c : List Edge) → length c ≤ maxEdges → recordOctets (solutionOf c) ≡ solutionOctets c
-unfolding recordOctets edgeBytes edgeOctets octets2 range flatMap solutionOf solutionOctets padded noEdge edgeAt bit
-record-of [] h = refl
-record-of (e ∷ []) h = refl
-record-of (e ∷ f ∷ []) h = refl
-record-of (e ∷ f ∷ g ∷ []) h = refl
-record-of (e ∷ f ∷ g ∷ i ∷ c) h = absurd (omega arith)
 
 -- ---- pushed
 

@@ -14,11 +14,11 @@ pub record Going (slots : ℕ) (before after : Slots) (all left : List (List Edg
   pub most : after .0 ≤ slots + 1
 
 module _ {slots : ℕ} {before : Slots} {all : List (List Edge)} where
-  pub going-start : before .0 ≤ slots + 1 → Going slots before before all all
+  going-start : before .0 ≤ slots + 1 → Going slots before before all all
   going-start h = record { state = refl; most = h }
 
   -- nothing is pushed
-  pub going-pass : {after : Slots} {left next : List (List Edge)} → Going slots before after all left → left ≡ next → Going slots before after all next
+  going-pass : {after : Slots} {left next : List (List Edge)} → Going slots before after all left → left ≡ next → Going slots before after all next
   going-pass {after = after} g e = record { state = g .state ∙ ap (pushed slots after) e; most = g .most }
 
   pub going-push : {after then : Slots} {left part next : List (List Edge)} → Going slots before after all left → left ≡ part ++ next

@@ -5,7 +5,7 @@ use native.Mathlib.Nat.{add-assoc}
 use native.Mathlib.Numerals.{add-one}
 use native.Mathlib.Omega.{arith}
 use mathlib.Core.Path.{_≡_, refl, sym, ap, ap₂, _∙_}
-use mathlib.Core.Bool.{Bool, true, false, _&&_}
+use mathlib.Core.Bool.{Bool, true, false, _&&_, and-assoc, and-true}
 use mathlib.Core.List.{List}
 use lib.ListN.{length, getD, drop, drop-of-length-le}
 use lib.Seq.{drop-cons}
@@ -15,10 +15,6 @@ use Rattle.spec.specs.Limits.{solutionSize}
 use Rattle.spec.specs.Basics.{sameList}
 use Rattle.spec.specs.Octets.{Bytes, be16, be32, be64}
 use Rattle.spec.proofs.BookLaws.{be16-lt, be32-lt}
-
-and-assoc : (x y z : Bool) → (x && (y && z)) ≡ ((x && y) && z)
-and-assoc true y z = refl
-and-assoc false y z = refl
 
 -- two halves are one number
 pair : (top m n a c : ℕ) → (m * top + a ≡ n * top + c → (m ≡ n) × (a ≡ c)) → (eqb m n && eqb a c) ≡ eqb (m * top + a) (n * top + c)
@@ -44,7 +40,7 @@ module _ (xs ys : List ℕ) where
   wider f w top step one hx hy i h =
       step i (omega arith)
       ∙ ap (λ t. eqb (f xs i) (f ys i) && t) (step (i + w) (omega arith))
-      ∙ and-assoc (eqb (f xs i) (f ys i)) (eqb (f xs (i + w)) (f ys (i + w))) (from (i + w + w))
+      ∙ sym (and-assoc (eqb (f xs i) (f ys i)) (eqb (f xs (i + w)) (f ys (i + w))) (from (i + w + w)))
       ∙ ap₂ (λ t k. t && from k) (pair top (f xs i) (f ys i) (f xs (i + w)) (f ys (i + w)) (one _ _ _ _ (hx (i + w)) (hy (i + w)))) (add-assoc i w w)
 
   module _ (lx : length xs ≡ solutionSize) (ly : length ys ≡ solutionSize) (bx : Bytes xs) (by : Bytes ys) where
@@ -64,13 +60,9 @@ module _ (xs ys : List ℕ) where
     unfolding be64
     eight-bytes = wider be32 4 (2 ^ 32) four-bytes (λ m n a c p q e. (omega arith, omega arith)) (be32-lt xs bx) (be32-lt ys by)
 
-    none : from 16 ≡ true
+    none : from solutionSize ≡ true
     unfolding sameList
-    none = ap₂ sameList (drop-of-length-le xs {i = 16} (omega arith)) (drop-of-length-le ys {i = 16} (omega arith))
-
-    and-true : (x : Bool) → (x && true) ≡ x
-    and-true true = refl
-    and-true false = refl
+    none = ap₂ sameList (drop-of-length-le xs {i = solutionSize} (omega arith)) (drop-of-length-le ys {i = solutionSize} (omega arith))
 
     last : from 8 ≡ eqb (be64 xs 8) (be64 ys 8)
     last = eight-bytes 8 (omega arith) ∙ ap (λ t. eqb (be64 xs 8) (be64 ys 8) && t) none ∙ and-true _

@@ -15,12 +15,12 @@ use Rattle.spec.specs.Limits.{pathSize}
 use Rattle.spec.specs.Book.{verdict}
 use Rattle.spec.specs.Chains.{IsChain}
 use Rattle.spec.specs.Records.{solutionOctets}
-use Rattle.spec.specs.Answers.{assembly, pathAnswer, refusedPath}
-use Rattle.spec.proofs.AnswerLaws.{assembly-chain, assembly-stranger}
+use Rattle.spec.specs.Answers.{Assembled, pathNumber, assembly, pathAnswer, refusedPath}
+use Rattle.spec.proofs.AnswerLaws.{assembly-chain, assembly-stranger, assembly-refused}
 use Rattle.graph.specs.declared.Chain.{Chain}
 use Rattle.graph.specs.declared.Chain.the-variants.{Refused, Stranger, Edges}
-use Rattle.graph.specs.Recorded.{recordedChains, recordedOn, recorded}
-use Rattle.graph.proofs.NamedLaws.{recorded-mem, mem-recorded}
+use Rattle.graph.specs.Recorded.{chainNumber, recordedChains, recordedOn, recorded}
+use Rattle.graph.proofs.RecordWalkLaws.{recorded-mem, mem-recorded}
 
 -- ---- what is said, by the verdict
 
@@ -84,3 +84,13 @@ module _ (b : List ℕ) (src dst : IsdAsn) (given : List ℕ) (r : Chain) (said 
         },
         h .3,
       )
+
+  -- where it is no chain's, its number is that of assembly's answer
+  pub said-number : ((n : ℕ) → r ≡ Edges n → ⊥) → (bytes : ℕ) → pathSize ≤ bytes → pathNumber (assembly b src dst given bytes .0) ≡ chainNumber r
+  unfolding refusedPath
+  said-number none bytes room = go r refl
+    where
+      go : (x : Chain) → r ≡ x → pathNumber (assembly b src dst given bytes .0) ≡ chainNumber x
+      go (Refused x) q = ap (λ (a : Assembled). pathNumber (a .0)) (assembly-refused b src dst bytes given x (said-refused x q))
+      go Stranger q = ap (λ (a : Assembled). pathNumber (a .0)) (said-stranger q .answer bytes room)
+      go (Edges n) q = absurd (none n q)

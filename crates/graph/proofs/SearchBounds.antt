@@ -7,23 +7,16 @@ use mathlib.Core.List.{List}
 use lib.ListN.{length, length-map}
 use Rattle.spec.specs.declared.Verdict.the-variants.{Accepted}
 use Rattle.spec.specs.declared.Sizes.{Sizes}
-use Rattle.spec.specs.Limits.{maxEntries, maxPeers, maxSegments}
+use Rattle.spec.specs.Limits.{maxPeers, maxSegments}
 use Rattle.spec.specs.Basics.{range}
 use Rattle.spec.specs.Book.{Entry, sizesAt, verdict, segmentAt, segmentCount, cores, nonCores, entryCountAt, entryAt, entryOffset, bodyOffset, peerCount, peerOfEntryAt}
 use Rattle.spec.specs.Edges.{entryOf}
 use Rattle.spec.proofs.Lists.{length-range}
-use Rattle.spec.proofs.BookLaws.{accepted, entry-count, segment-length}
+use Rattle.spec.proofs.BookLaws.{accepted, segment-length}
 use Rattle.spec.proofs.BodyLaws.{entry-at, entry-place}
 use Rattle.graph.specs.Leaving.{entryCount, peerCountOf}
 
 module _ (b : List ℕ) (ok : verdict b ≡ Accepted) where
-  pub segments-few : segmentCount b ≤ maxSegments
-  segments-few = accepted b ok .crowd
-
-  pub entries-few : (k : ℕ) → k < segmentCount b → entryCount (segmentAt b k) ≤ maxEntries
-  unfolding entryCount
-  entries-few k h = omega (arith, segment-length b k, entry-count b (accepted b ok) k h)
-
   pub peers-few : (k i : ℕ) → k < segmentCount b → i < entryCount (segmentAt b k) → peerCountOf (segmentAt b k) i ≤ maxPeers
   unfolding entryCount peerCountOf entryAt
   peers-few k i h l =
@@ -44,4 +37,4 @@ unfolding sizesAt segmentCount
 counted b ok s e =
     let c : s .cores ≡ cores b = ap (λ (x : Sizes). x .cores) e in
     let n : s .others ≡ nonCores b = ap (λ (x : Sizes). x .others) e in
-    record { cores = c; count = ap₂ (λ x y. x + y) c n; small = omega (arith, segments-few b ok) }
+    record { cores = c; count = ap₂ (λ x y. x + y) c n; small = omega (arith, accepted b ok .crowd) }

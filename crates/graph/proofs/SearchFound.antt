@@ -1,6 +1,6 @@
 -- The chains that the search finds are all chains, each once; in order they are the solutions.
 -- Assumes nothing.
-use Prim.Native.Nat.{ℕ, suc, _+_}
+use Prim.Native.Nat.{ℕ, _-_}
 use native.Mathlib.Omega.{arith}
 use mathlib.Core.Path.{_≡_, refl, sym, ap, _∙_, subst}
 use mathlib.Core.Logic.{⊎-elim}
@@ -15,10 +15,10 @@ use Rattle.spec.specs.Basics.{if_then_else_, filter, range, Once}
 use Rattle.spec.specs.Book.{Segment, segments, segmentAt, segmentCount}
 use Rattle.spec.specs.Edges.{sameAs, sameVertex, insertions, isFirst, firsts, storedOf, storedEdges}
 use Rattle.spec.specs.Chains.{IsChain, allowedKinds, leaves, leaving, beginning, walks, chains}
-use Rattle.spec.specs.Order.{compareChains, isLt, insert, insertAll, solutions}
+use Rattle.spec.specs.Order.{insertAll, solutions}
 use Rattle.spec.proofs.Membership.{filter-mem, map-mem, flatMap-mem, mem-flatMap, once-filter, once-map, once-flatMap}
 use Rattle.spec.proofs.ChainLaws.{allowed-length, chains-sound, chains-complete}
-use Rattle.spec.proofs.OnceLaws.{inserted, lasting-mem, segment-position, same-position, once-range, once-stored, once-walks}
+use Rattle.spec.proofs.OnceLaws.{length-all, inserted, lasting-mem, segment-position, same-position, once-range, once-stored, once-walks}
 use Rattle.spec.proofs.OrderLaws.{sorted-any}
 use Rattle.graph.specs.Lookup.{leavingOf}
 use Rattle.graph.specs.Leaving.{leavingIn}
@@ -44,23 +44,6 @@ leaving-position : (src : IsdAsn) (seg : Segment) {e : Edge} → Mem e (leavingO
 unfolding leavingOf storedOf
 leaving-position src seg m = inserted seg (lasting-mem (insertions seg) (filter-mem (leaves (AS src)) (storedOf seg) m .0)) .position
 
--- ---- insertion adds one
-
-module _ (digest : List ℕ → List ℕ) (b : List ℕ) where
-  length-insert : (c : List Edge) (ds : List (List Edge)) → length (insert digest b c ds) ≡ suc (length ds)
-  unfolding insert
-  length-insert c [] = refl
-  length-insert c (d ∷ ds) = go (length-insert c ds) (isLt (compareChains digest b c d))
-    where
-      go : length (insert digest b c ds) ≡ suc (length ds) → (t : Bool) → length (if t then c ∷ d ∷ ds else d ∷ insert digest b c ds) ≡ suc (suc (length ds))
-      go ih true = refl
-      go ih false = ap suc ih
-
-  length-all : (ds cs : List (List Edge)) → length (insertAll digest b ds cs) ≡ length ds + length cs
-  unfolding insertAll
-  length-all ds [] = omega arith
-  length-all ds (c ∷ cs) = length-all (insert digest b c ds) cs ∙ omega (arith, length-insert c ds)
-
 -- ---- the chains that begin with an edge
 
 module _ (b : List ℕ) (dst : IsdAsn) where
@@ -68,17 +51,17 @@ module _ (b : List ℕ) (dst : IsdAsn) where
   unfolding chainsFrom beginning
   from-once e = once-filter allowedKinds _ (go (sameVertex (e .dst) (AS dst)))
     where
-      go : (t : Bool) → Once (if t then (e ∷ []) ∷ [] else map (λ es. e ∷ es) (walks 2 (storedEdges b) (AS dst) (e .dst)))
+      go : (t : Bool) → Once (if t then (e ∷ []) ∷ [] else map (λ es. e ∷ es) (walks (maxEdges - 1) (storedEdges b) (AS dst) (e .dst)))
       go true = (λ m. absurd (not-nil m), tt)
-      go false = once-map (λ es. e ∷ es) (λ x y q. tail-eq-of-cons-eq q) (walks 2 (storedEdges b) (AS dst) (e .dst)) (once-walks (storedEdges b) (AS dst) (once-stored b) 2 (e .dst))
+      go false = once-map (λ es. e ∷ es) (λ x y q. tail-eq-of-cons-eq q) (walks (maxEdges - 1) (storedEdges b) (AS dst) (e .dst)) (once-walks (storedEdges b) (AS dst) (once-stored b) (maxEdges - 1) (e .dst))
 
   from-starts : (e : Edge) {c : List Edge} → Mem c (chainsFrom b dst e) → (d : List Edge) × (c ≡ e ∷ d)
   unfolding chainsFrom beginning
   from-starts e {c} m = go (sameVertex (e .dst) (AS dst)) (filter-mem allowedKinds _ m .0)
     where
-      go : (t : Bool) → Mem c (if t then (e ∷ []) ∷ [] else map (λ es. e ∷ es) (walks 2 (storedEdges b) (AS dst) (e .dst))) → (d : List Edge) × (c ≡ e ∷ d)
+      go : (t : Bool) → Mem c (if t then (e ∷ []) ∷ [] else map (λ es. e ∷ es) (walks (maxEdges - 1) (storedEdges b) (AS dst) (e .dst))) → (d : List Edge) × (c ≡ e ∷ d)
       go true k = ([], ⊎-elim (λ q. q) (λ l. absurd (not-nil l)) (cases-cons k))
-      go false k = let w = map-mem (λ es. e ∷ es) (walks 2 (storedEdges b) (AS dst) (e .dst)) k in (w .0, w .2)
+      go false k = let w = map-mem (λ es. e ∷ es) (walks (maxEdges - 1) (storedEdges b) (AS dst) (e .dst)) k in (w .0, w .2)
 
   module _ (src : IsdAsn) where
     abbrev here : Segment → List Edge
@@ -105,7 +88,7 @@ module _ (b : List ℕ) (dst : IsdAsn) where
     unfolding chains walks chainsFrom
     chains-from q =
         ap (λ t. if t then [] else filter allowedKinds (walks maxEdges (storedEdges b) (AS dst) (AS src))) q
-        ∙ through (filter allowedKinds) (unfold filter in refl) (filter-append allowedKinds) (beginning (walks 2 (storedEdges b) (AS dst)) (AS dst)) (leaving (AS src) (storedEdges b))
+        ∙ through (filter allowedKinds) (unfold filter in refl) (filter-append allowedKinds) (beginning (walks (maxEdges - 1) (storedEdges b) (AS dst)) (AS dst)) (leaving (AS src) (storedEdges b))
         ∙ ap (flatMap (chainsFrom b dst)) (leaving-over b (AS src))
 
     none-found : sameAs src dst ≡ true → foundChains b dst src ≡ []
@@ -152,7 +135,7 @@ module _ (b : List ℕ) (dst : IsdAsn) where
         go false q = subst (Mem c) (sym (found-from q)) (swap (leavingOf (AS src)) here (λ seg e k. mem-leaving seg src k) c (subst (Mem c) (chains-from q) m))
 
     -- in order they are the solutions
-    pub found-sorted : (digest : List ℕ → List ℕ) → insertAll digest b [] (foundChains b dst src) ≡ solutions digest b src dst
+    found-sorted : (digest : List ℕ → List ℕ) → insertAll digest b [] (foundChains b dst src) ≡ solutions digest b src dst
     found-sorted digest = sorted-any digest b src dst (foundChains b dst src) found-once found-sound found-complete
 
     pub found-length : (digest : List ℕ → List ℕ) → length (foundChains b dst src) ≡ length (solutions digest b src dst)

@@ -4,12 +4,13 @@ use Prim.Native.Nat.{ℕ, zero, suc, _+_, _-_, _<_, _≤_}
 use native.Mathlib.Omega.{arith}
 use native.Mathlib.Nat.{add-zero}
 use mathlib.Core.Path.{_≡_, refl, sym, ap, ap₂, _∙_}
-use mathlib.Core.Bool.{Bool, true, false, _&&_, not}
+use mathlib.Core.Bool.{Bool, true, false, _&&_, not, and-false}
 use mathlib.Core.List.{List, [], _∷_, _++_, map, flatMap, append-assoc, List·Memᴰ as Mem}
 use Rattle.spec.specs.declared.IsdAsn.{IsdAsn}
 use Rattle.spec.specs.declared.Vertex.{Vertex}
 use Rattle.spec.specs.declared.Vertex.the-variants.{AS}
 use Rattle.spec.specs.declared.Edge.{Edge}
+use Rattle.spec.specs.Limits.{maxEdges}
 use Rattle.spec.specs.Basics.{if_then_else_, filter, range}
 use Rattle.spec.specs.Book.{Segment, segments, segmentAt, segmentCount}
 use Rattle.spec.specs.Edges.{sameVertex, insertions, isFirst, firsts, storedOf, storedEdges}
@@ -122,7 +123,7 @@ module _ (b : List ℕ) (dst : IsdAsn) where
   pub from-arrived : (e : Edge) → sameVertex (e .dst) (AS dst) ≡ true → chainsFrom b dst e ≡ (e ∷ []) ∷ []
   unfolding chainsFrom beginning filter allowedKinds
   from-arrived e q =
-      ap (λ t. filter allowedKinds (if t then (e ∷ []) ∷ [] else map (λ es. e ∷ es) (walks 2 (storedEdges b) (AS dst) (e .dst)))) q
+      ap (λ t. filter allowedKinds (if t then (e ∷ []) ∷ [] else map (λ es. e ∷ es) (walks (maxEdges - 1) (storedEdges b) (AS dst) (e .dst)))) q
 
   -- ---- a last edge
 
@@ -253,11 +254,7 @@ module _ (b : List ℕ) (dst : IsdAsn) where
     second-other : f .core ≡ false → second ≡ (if arrives f then pair b dst e f ∷ [] else [])
     unfolding pair ending
     second-other q =
-        second-by false [] (ap (λ t. e .core && t) q ∙ never (e .core)) (last-nothing (ap (λ t. not (e .core) && t) q ∙ never (not (e .core))))
-      where
-        never : (s : Bool) → (s && false) ≡ false
-        never true = refl
-        never false = refl
+        second-by false [] (ap (λ t. e .core && t) q ∙ and-false (e .core)) (last-nothing (ap (λ t. not (e .core) && t) q ∙ and-false (not (e .core))))
 
   module _ (e : Edge) where
     -- what is allowed of the ways that go on from e with one of a list of edges
@@ -299,7 +296,7 @@ module _ (b : List ℕ) (dst : IsdAsn) where
     pub from-onward : sameVertex (e .dst) (AS dst) ≡ false → chainsFrom b dst e ≡ overFirsts (chainsWith b dst e) b 0 (segmentCount b)
     unfolding chainsFrom beginning walks onward
     from-onward q =
-        ap (λ t. filter allowedKinds (if t then (e ∷ []) ∷ [] else map (λ es. e ∷ es) (walks 2 (storedEdges b) (AS dst) (e .dst)))) q
+        ap (λ t. filter allowedKinds (if t then (e ∷ []) ∷ [] else map (λ es. e ∷ es) (walks (maxEdges - 1) (storedEdges b) (AS dst) (e .dst)))) q
         ∙ ap onward (leaving-over b (e .dst))
         ∙ through onward onward-none onward-join (leavingOf (e .dst)) (firsts (segments b))
         ∙ flatMap-same _ _ (firsts (segments b)) (λ seg m. onward-with seg)

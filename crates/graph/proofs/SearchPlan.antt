@@ -10,16 +10,18 @@ use lib.ListN.{length, getD, set, length-set}
 use lib.Seq.{getD-set-same, getD-set-other}
 use Rattle.spec.specs.declared.IsdAsn.{IsdAsn}
 use Rattle.spec.specs.declared.Edge.{Edge}
-use Rattle.spec.specs.Limits.{maxSegments}
+use Rattle.spec.specs.Limits.{maxSegments, solutionSize}
 use Rattle.spec.specs.Basics.{if_then_else_}
-use Rattle.spec.specs.Book.{Segment, segments, segmentAt, cores}
+use Rattle.spec.specs.Book.{Segment, segments, segmentAt, segmentCount, cores}
 use Rattle.spec.specs.Edges.{isFirst}
 use Rattle.spec.specs.Records.{bit}
-use Rattle.graph.specs.Scan.{firstWith}
-use Rattle.graph.specs.Prepared.{begins, arrives, Planned}
+use Rattle.graph.specs.Scan.{firstWith, hasAs}
+use Rattle.graph.specs.Prepared.{begins, arrives, Planned, Prepared}
+use Rattle.graph.specs.Pushed.{Slots, Room, Pushes}
 use Rattle.graph.specs.Search.{overFirsts, chainsWith, triplesIn}
 use Rattle.graph.proofs.LookupScan.{first-le, first-passes}
-use Rattle.graph.proofs.SearchLaws.{over-turn, over-skip}
+use Rattle.graph.proofs.PushedTurns.{Going, going-begin, going-push, going-end, going-full}
+use Rattle.graph.proofs.SearchLaws.{over-turn, over-skip, over-end}
 use Rattle.graph.proofs.SearchTurns.{arrives-first, arrives-none, pair-none, triple-none}
 
 -- ---- the plan is made from the last position down
@@ -82,11 +84,11 @@ module _ (b : List ℕ) (dst : IsdAsn) (n : ℕ) where
 -- ---- what is passed over
 
 module _ {A : Type 0} (f : Segment → List A) (b : List ℕ) (p : ℕ → Bool) where
-  over-next : (k left : ℕ) → ((i : ℕ) → k ≤ i → p i ≡ false → isFirst (segments b) (segmentAt b i) ≡ true → f (segmentAt b i) ≡ [])
+  skip-from : (k left : ℕ) → ((i : ℕ) → k ≤ i → p i ≡ false → isFirst (segments b) (segmentAt b i) ≡ true → f (segmentAt b i) ≡ [])
       → overFirsts f b k left ≡ overFirsts f b (firstWith p k left) (k + left - firstWith p k left)
   unfolding firstWith
-  over-next k zero none = let e : 0 ≡ k + 0 - k = omega arith in ap (overFirsts f b k) e
-  over-next k (suc left) none = go (p k) refl (over-next (k + 1) left (λ i h. none i (omega arith)))
+  skip-from k zero none = let e : 0 ≡ k + 0 - k = omega arith in ap (overFirsts f b k) e
+  skip-from k (suc left) none = go (p k) refl (skip-from (k + 1) left (λ i h. none i (omega arith)))
     where
       go : (t : Bool) → p k ≡ t → overFirsts f b (k + 1) left ≡ overFirsts f b (firstWith p (k + 1) left) (k + 1 + left - firstWith p (k + 1) left)
           → overFirsts f b k (suc left) ≡ overFirsts f b (if t then k else firstWith p (k + 1) left) (k + suc left - (if t then k else firstWith p (k + 1) left))
@@ -101,45 +103,98 @@ module _ {A : Type 0} (f : Segment → List A) (b : List ℕ) (p : ℕ → Bool)
           ∙ ih
           ∙ ap (λ m. overFirsts f b (firstWith p (k + 1) left) (m - firstWith p (k + 1) left)) e″
 
-  over-pass : (k n : ℕ) {j : ℕ} → k ≤ n → ((i : ℕ) → k ≤ i → p i ≡ false → isFirst (segments b) (segmentAt b i) ≡ true → f (segmentAt b i) ≡ [])
+  skip-to-next : (k n : ℕ) {j : ℕ} → k ≤ n → ((i : ℕ) → k ≤ i → p i ≡ false → isFirst (segments b) (segmentAt b i) ≡ true → f (segmentAt b i) ≡ [])
       → j ≡ firstWith p k (n - k) → overFirsts f b k (n - k) ≡ overFirsts f b j (n - j)
-  over-pass k n h none q =
+  skip-to-next k n h none q =
       let e : k + (n - k) ≡ n = omega arith in
-      over-next k (n - k) none
+      skip-from k (n - k) none
       ∙ ap (λ m. overFirsts f b (firstWith p k (n - k)) (m - firstWith p k (n - k))) e
       ∙ ap (λ i. overFirsts f b i (n - i)) (sym q)
 
--- where a loop over last edges stands: past all, or where chains may arrive
-pub record Stops (b : List ℕ) (dst : IsdAsn) (n k : ℕ) : Type 0 where
+-- ---- a loop over last edges
+
+-- what gives nothing in a non-core segment where no chain arrives
+abbrev Quiet : List ℕ → IsdAsn → (Segment → List (List Edge)) → Type 0
+Quiet b dst f = (i : ℕ) → cores b ≤ i → hasAs (segmentAt b i) dst ≡ false → f (segmentAt b i) ≡ []
+
+pub pairs-quiet : (b : List ℕ) (dst : IsdAsn) (e : Edge) → Quiet b dst (chainsWith b dst e)
+pairs-quiet b dst e i = pair-none b dst e i
+
+pub triples-quiet : (b : List ℕ) (dst : IsdAsn) (e f : Edge) → Quiet b dst (triplesIn b dst e f)
+triples-quiet b dst e f i = triple-none b dst e i f
+
+-- it stands past all positions or where chains may arrive, and has pushed what the positions before give
+pub record LastEdges (b : List ℕ) (dst : IsdAsn) (c n slots : ℕ) (f : Segment → List (List Edge)) (before : Slots) (k m : ℕ) (out : List ℕ) : Type 0 where
+  pub above : c ≤ k
   pub within : k ≤ n
   pub here : k < n → arrives b dst k ≡ true
+  pub size : length out ≡ length (before .1)
+  pub going : Going slots before (m, out) (overFirsts f b c (n - c)) (overFirsts f b k (n - k))
 
-module _ (b : List ℕ) (dst : IsdAsn) where
-  module _ (k n : ℕ) {j : ℕ} (h : k ≤ n) (next : j ≡ firstWith (arrives b dst) k (n - k)) where
-    pub next-above : k ≤ j
-    next-above = let l = first-le (arrives b dst) k (n - k) in omega arith
+module _ {b t plan : List ℕ} {src dst : IsdAsn} {c n : ℕ} (p : Prepared b t plan src dst c n) where
+  abbrev nextAt : ℕ → ℕ
+  nextAt k = getD plan (maxSegments + k) 0
 
-    pub next-stops : Stops b dst n j
-    next-stops =
-        let l = first-le (arrives b dst) k (n - k) in
-        record { within = omega arith; here = λ g. ap (arrives b dst) next ∙ first-passes (arrives b dst) k (n - k) (omega arith) }
+  module _ (k : ℕ) (h : k ≤ n) where
+    next : nextAt k ≡ firstWith (arrives b dst) k (n - k)
+    next = p .planned .nexts k (omega arith) h
 
-    module _ (o : cores b ≤ k) where
-      pub pairs-pass : (e : Edge) → overFirsts (chainsWith b dst e) b k (n - k) ≡ overFirsts (chainsWith b dst e) b j (n - j)
-      pairs-pass e = over-pass (chainsWith b dst e) b (arrives b dst) k n h (λ i a q t. pair-none b dst e i (omega arith) (arrives-none b i dst (omega arith) q t)) next
+    next-above : k ≤ nextAt k
+    next-above = omega (arith, next, first-le (arrives b dst) k (n - k))
 
-      pub triples-pass : (e f : Edge) → overFirsts (triplesIn b dst e f) b k (n - k) ≡ overFirsts (triplesIn b dst e f) b j (n - j)
-      triples-pass e f = over-pass (triplesIn b dst e f) b (arrives b dst) k n h (λ i a q t. triple-none b dst e i f (omega arith) (arrives-none b i dst (omega arith) q t)) next
+    next-within : nextAt k ≤ n
+    next-within = omega (arith, next, first-le (arrives b dst) k (n - k))
 
-  -- one position, and on to the next
-  module _ (k n : ℕ) {j : ℕ} (s : Stops b dst n k) (h : k < n) (next : j ≡ firstWith (arrives b dst) (k + 1) (n - (k + 1))) (o : cores b ≤ k) where
-    pub pairs-turn : (e : Edge) → overFirsts (chainsWith b dst e) b k (n - k) ≡ chainsWith b dst e (segmentAt b k) ++ overFirsts (chainsWith b dst e) b j (n - j)
-    pairs-turn e =
-        over-turn (chainsWith b dst e) b k n h (arrives-first b k dst (s .here h))
-        ∙ ap (λ l. chainsWith b dst e (segmentAt b k) ++ l) (pairs-pass (k + 1) n (omega arith) next (omega arith) e)
+    next-here : nextAt k < n → arrives b dst (nextAt k) ≡ true
+    next-here g = ap (arrives b dst) next ∙ first-passes (arrives b dst) k (n - k) (omega (arith, next))
 
-    pub triples-turn : (e f : Edge)
-        → overFirsts (triplesIn b dst e f) b k (n - k) ≡ triplesIn b dst e f (segmentAt b k) ++ overFirsts (triplesIn b dst e f) b j (n - j)
-    triples-turn e f =
-        over-turn (triplesIn b dst e f) b k n h (arrives-first b k dst (s .here h))
-        ∙ ap (λ l. triplesIn b dst e f (segmentAt b k) ++ l) (triples-pass (k + 1) n (omega arith) next (omega arith) e f)
+  pass : (f : Segment → List (List Edge)) → Quiet b dst f → (k : ℕ) → c ≤ k → k ≤ n → overFirsts f b k (n - k) ≡ overFirsts f b (nextAt k) (n - nextAt k)
+  pass f quiet k a h =
+      skip-to-next f b (arrives b dst) k n h
+      (λ i l q u. quiet i (omega (arith, p .cores)) (arrives-none b i dst (omega (arith, p .cores)) q u)) (next k h)
+
+  module _ {slots : ℕ} {f : Segment → List (List Edge)} {before : Slots} where
+    module _ (quiet : Quiet b dst f) where
+      pub last-start : before .0 ≤ slots + 1 → LastEdges b dst c n slots f before (nextAt c) (before .0) (before .1)
+      last-start l =
+          record {
+            above = next-above c (p .within);
+            within = next-within c (p .within);
+            here = next-here c (p .within);
+            size = refl;
+            going = going-begin l (pass f quiet c (omega arith) (p .within));
+          }
+
+      -- one position, and on to the next
+      pub last-turn : {k m m′ : ℕ} {out out′ : List ℕ} → LastEdges b dst c n slots f before k m out → k < n
+          → Pushes slots (m, out) (m′, out′) (f (segmentAt b k)) → length out′ ≡ length out → LastEdges b dst c n slots f before (nextAt (k + 1)) m′ out′
+      last-turn {k} l h q e =
+          record {
+            above = omega (arith, l .above, next-above (k + 1) (omega arith));
+            within = next-within (k + 1) (omega arith);
+            here = next-here (k + 1) (omega arith);
+            size = e ∙ l .size;
+            going =
+                going-push (l .going)
+                (over-turn f b k n h (arrives-first b k dst (l .here h)) ∙ ap (λ x. f (segmentAt b k) ++ x) (pass f quiet (k + 1) (omega (arith, l .above)) (omega arith))) q;
+          }
+
+    module _ {k m : ℕ} {out : List ℕ} (l : LastEdges b dst c n slots f before k m out) where
+      pub last-less : k < n → n - nextAt (k + 1) < n - k
+      last-less h = omega (arith, next-above (k + 1) (omega arith))
+
+      -- what the function for one position asks
+      pub last-position : k < n → (cores b ≤ k) × (k < segmentCount b)
+      last-position h = (omega (arith, l .above, p .cores), omega (arith, p .count))
+
+      pub last-room : solutionSize * slots ≤ length (before .1) → m ≤ slots → Room slots m out
+      last-room r s = record { room = omega (arith, l .size); most = omega arith }
+
+module _ {b : List ℕ} {dst : IsdAsn} {c n slots : ℕ} {f : Segment → List (List Edge)} {before : Slots} {k m : ℕ} {out : List ℕ}
+    (l : LastEdges b dst c n slots f before k m out) where
+  pub last-end : n ≤ k → Pushes slots before (m, out) (overFirsts f b c (n - c))
+  last-end h = going-end (l .going) (over-end f b k n h)
+
+  -- the count is past the slots
+  pub last-full : slots < m → Pushes slots before (m, out) (overFirsts f b c (n - c))
+  last-full h = going-full (l .going) h

@@ -16,18 +16,18 @@ use Rattle.spec.specs.Basics.{if_then_else_, range}
 use Rattle.spec.specs.Book.{Segment, segments, segmentAt, segmentCount, cores}
 use Rattle.spec.specs.Edges.{sameAs, sameVertex, asOf, leafAs, edgeOf, isFirst}
 use Rattle.spec.specs.Records.{bit}
-use Rattle.graph.specs.declared.Found.{Found}
-use Rattle.graph.specs.declared.Found.the-variants.{Edge as FoundEdge, Nothing}
+use Rattle.graph.specs.declared.edges.Found.{Found}
+use Rattle.graph.specs.declared.edges.Found.the-variants.{Edge as FoundEdge, Nothing}
 use Rattle.graph.specs.Lookup.{between, leavingOf, foundEdges}
 use Rattle.graph.specs.Leaving.{entryCount, peerCountOf, asUp, peerUp, upsAt, leavingIn}
 use Rattle.graph.specs.Scan.{hasAs, coreEdgeFrom}
-use Rattle.graph.specs.Firsts.{firstAt}
+use Rattle.graph.specs.FirstOfEquals.{firstAt}
 use Rattle.graph.specs.Prepared.{begins, arrives}
 use Rattle.graph.specs.Search.{isAs, endsAtAs, overFirsts, pair, triple, pairsIn, triplesIn, acrossWith, chainsWith, chainsFrom, chainsIn, foundChains}
 use Rattle.spec.proofs.Lists.{flatMap-append}
 use Rattle.spec.proofs.Membership.{not-both}
 use Rattle.graph.proofs.LookupLaws.{core-leaving}
-use Rattle.graph.proofs.LookupReads.{other-leaf, none-arrives, none-leaves, empty-leaving}
+use Rattle.graph.proofs.EdgeReads.{other-leaf, none-arrives, none-leaves, empty-leaving}
 use Rattle.graph.proofs.SearchLists.{range-turn}
 use Rattle.graph.proofs.SearchLaws.{over-split, over-none, from-arrived, from-onward}
 

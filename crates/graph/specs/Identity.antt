@@ -37,5 +37,5 @@ unfoldable pub farLinkOf : Segment → ℕ → ℕ → Vertex
 farLinkOf seg i p = Peering (peerOf seg i p .peer) (peerOf seg i p .interface) (asOf seg i) (peerOf seg i p .hop .ingress)
 
 -- from the other side of peer p of entry i to the leaf, or from the leaf to the peer
-unfoldable pub peerNamed : Segment → ℕ → ℕ → Bool → List Edge
-peerNamed seg i p construction = if construction then between seg (farLinkOf seg i p) (AS (leafAs seg)) else peerUp seg i p
+unfoldable pub overPeer : Segment → ℕ → ℕ → Bool → List Edge
+overPeer seg i p construction = if construction then between seg (farLinkOf seg i p) (AS (leafAs seg)) else peerUp seg i p

@@ -2,13 +2,12 @@ pub mod Lookup
 pub mod Leaving
 pub mod Scan
 pub mod Ready
-pub mod Firsts
+pub mod FirstOfEquals
 pub mod Link
-pub mod Joint
+pub mod EdgeFound
 pub mod Prepared
 pub mod Search
 pub mod Pushed
-pub mod Alike
 pub mod Identity
 pub mod Recorded
-pub mod Named
+pub mod RecordWalk

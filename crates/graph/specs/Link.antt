@@ -6,7 +6,7 @@ use Rattle.spec.specs.declared.PeerEntry.{PeerEntry}
 use Rattle.spec.specs.declared.Vertex.{Vertex}
 use Rattle.spec.specs.declared.Vertex.the-variants.{Peering}
 use Rattle.spec.specs.Edges.{sameAs}
-use Rattle.graph.specs.declared.edges.Link.{Link}
+use Rattle.graph.specs.declared.vertices.Link.{Link}
 
 abbrev pub endOf : Link → Vertex
 endOf l = Peering (l .local) (l .ingress) (l .peer) (l .interface)

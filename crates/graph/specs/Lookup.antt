@@ -8,8 +8,8 @@ use Rattle.spec.specs.Basics.{filter}
 use Rattle.spec.specs.Book.{Segment}
 use Rattle.spec.specs.Edges.{sameVertex, storedOf}
 use Rattle.spec.specs.Chains.{leaves}
-use Rattle.graph.specs.declared.Found.{Found}
-use Rattle.graph.specs.declared.Found.the-variants.{Edge as FoundEdge, Nothing}
+use Rattle.graph.specs.declared.edges.Found.{Found}
+use Rattle.graph.specs.declared.edges.Found.the-variants.{Edge as FoundEdge, Nothing}
 
 -- an edge with these ends
 unfoldable pub hasEnds : Vertex → Vertex → Edge → Bool

@@ -2,15 +2,13 @@
 -- Assumes nothing.
 use Prim.Native.Nat.{ℕ, _+_, _*_, _≤_}
 use mathlib.Core.Path.{_≡_}
-use mathlib.Core.List.{List, [], _∷_, _++_, flatMap}
-use lib.ListN.{length, getD, take, drop}
+use mathlib.Core.List.{List, [], _∷_, _++_}
+use lib.ListN.{length, take, drop}
 use lib.Dec.{ltb}
 use Rattle.spec.specs.declared.Edge.{Edge}
-use Rattle.spec.specs.declared.Solution.{Solution}
-use Rattle.spec.specs.Limits.{maxEdges, solutionSize}
-use Rattle.spec.specs.Octets.{octets2}
-use Rattle.spec.specs.Basics.{if_then_else_, range}
-use Rattle.spec.specs.Records.{edgeOctets, noEdge, solutionOctets}
+use Rattle.spec.specs.Limits.{solutionSize}
+use Rattle.spec.specs.Basics.{if_then_else_}
+use Rattle.spec.specs.Records.{solutionOctets}
 
 -- the count, and what the buffer holds
 abbrev pub Slots : Type 0
@@ -19,13 +17,6 @@ Slots = ℕ × List ℕ
 -- a buffer with the record r at slot q
 unfoldable pub putAt : List ℕ → ℕ → List ℕ → List ℕ
 putAt s q r = take (solutionSize * q) s ++ r ++ drop (solutionSize * q + solutionSize) s
-
--- the bytes of a record, and of its edge k
-unfoldable pub edgeBytes : Solution → ℕ → List ℕ
-edgeBytes s k = edgeOctets (getD (s .edges) k noEdge)
-
-unfoldable pub recordOctets : Solution → List ℕ
-recordOctets s = octets2 (s .cost) ++ (s .count ∷ 0 ∷ []) ++ flatMap (edgeBytes s) (range 0 maxEdges)
 
 -- one record more, of which there is room for `slots`
 unfoldable pub pushRecord : ℕ → Slots → List ℕ → Slots

@@ -1,12 +1,13 @@
 -- The search, chunk by chunk: what each loop of the code adds to the list of chains found so far.
 -- Assumes nothing.
-use Prim.Native.Nat.{ℕ, zero, suc, _+_}
+use Prim.Native.Nat.{ℕ, zero, suc, _+_, _-_}
 use mathlib.Core.Bool.{Bool, true, false}
 use mathlib.Core.List.{List, [], _∷_, _++_, map, flatMap}
 use Rattle.spec.specs.declared.IsdAsn.{IsdAsn}
 use Rattle.spec.specs.declared.Vertex.{Vertex}
 use Rattle.spec.specs.declared.Vertex.the-variants.{AS, Peering}
 use Rattle.spec.specs.declared.Edge.{Edge}
+use Rattle.spec.specs.Limits.{maxEdges}
 use Rattle.spec.specs.Basics.{if_then_else_, filter}
 use Rattle.spec.specs.Book.{Segment, segments, segmentAt, segmentCount}
 use Rattle.spec.specs.Edges.{sameAs, sameVertex, isFirst, storedEdges}
@@ -31,7 +32,7 @@ endsAtAs e = isAs (e .dst)
 module _ (b : List ℕ) (dst : IsdAsn) where
   -- the chains that begin with an edge
   unfoldable pub chainsFrom : Edge → List (List Edge)
-  chainsFrom e = filter allowedKinds (beginning (walks 2 (storedEdges b) (AS dst)) (AS dst) e)
+  chainsFrom e = filter allowedKinds (beginning (walks (maxEdges - 1) (storedEdges b) (AS dst)) (AS dst) e)
 
   unfoldable pub pair : Edge → Edge → List Edge
   pair e f = e ∷ f ∷ []

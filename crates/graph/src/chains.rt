@@ -1,23 +1,24 @@
 // The chain that a solution record is of: the record names its edges, and each is looked up in the book.
 ghost use mathlib.Core.Path.{_≡_};
-ghost use Prim.Native.Nat.{_+_, _≤_};
+ghost use Prim.Native.Nat.{_+_, _-_, _≤_};
 ghost use lib.ListN.{length};
 ghost use Rattle.spec.specs.Limits.{maxEdges, solutionSize};
 ghost use Rattle.spec.specs.Basics.{sameList};
-ghost use Rattle.spec.specs.Records.{recordEdge};
+ghost use Rattle.records.specs.Octets.{recordOctets};
 ghost use Rattle.book.specs.Offsets.{openTable};
 ghost use Rattle.graph.specs.Lookup.{foundEdges};
 ghost use Rattle.graph.specs.Identity.{identifiedIn};
-ghost use Rattle.graph.specs.Pushed.{recordOctets};
 ghost use Rattle.graph.specs.Ready.{Ready};
 ghost use Rattle.graph.specs.Recorded.{chainIn, recorded, recordedChains};
-ghost use Rattle.graph.specs.Named.{Short, begun, goesOn, pastEdge, kindsAllowed, ownEdge, ownSolution, hasArrived, completed};
+ghost use Rattle.graph.specs.RecordWalk.{Bounded, begun, goesOn, oneFurther, kindsAllowed, ownEdge, ownSolution, hasArrived, completed};
 use crate::Chain;
-use crate::Found;
-use crate::alike;
-use crate::edges;
-use crate::named;
+use crate::edge_by_identity;
+use crate::edges::Found;
+use crate::first_of_equals;
+use crate::opened;
+use crate::opened::WORD;
 use crate::slots;
+use crate::vertices;
 use book::PLACES;
 use spec::Edge;
 use spec::IsdAsn;
@@ -28,35 +29,16 @@ use spec::Vertex;
 
 // ---- what a record says
 
-// The bytes before a record's edges, and of each edge.
-const HEAD: usize = 4;
-
-const EDGE: usize = 4;
-
-// Edge k of a record.
-fn named_edge(given: &[u8], k: u8) -> SolutionEdge
-    ensures { λ r. ⌜ r ≡ recordEdge (now (given .entry)) k ⌝ }
-{
-    let at = HEAD + EDGE * (k as usize);
-    let construction = octets::byte(given, at + 3);
-    SolutionEdge {
-        position: octets::byte(given, at),
-        shortcut: octets::byte(given, at + 1),
-        peer: octets::byte(given, at + 2),
-        construction: construction == 1,
-    }
-}
-
 // Two records are the same.
 fn same_words(a: &[u8], b: &[u8]) -> bool
     requires { ⌜ length (now a) ≡ solutionSize ⌝ }
     requires { ⌜ length (now b) ≡ solutionSize ⌝ }
     ensures { λ r. ⌜ r ≡ sameList (now (a .entry)) (now (b .entry)) ⌝ }
 {
-    if edges::word_within(a, 0) != edges::word_within(b, 0) {
+    if opened::word_within(a, 0) != opened::word_within(b, 0) {
         return false;
     }
-    edges::word_within(a, 8) == edges::word_within(b, 8)
+    opened::word_within(a, WORD) == opened::word_within(b, WORD)
 }
 
 // The record is that of a solution.
@@ -64,7 +46,7 @@ fn same_record(given: &[u8], s: Solution) -> bool
     requires { ⌜ length (now given) ≡ solutionSize ⌝ }
     ensures { λ r. ⌜ r ≡ sameList (now (given .entry)) (recordOctets s) ⌝ }
 {
-    let own = slots::octets_of(s);
+    let own = records::solution_octets(s);
     same_words(given, &own)
 }
 
@@ -73,51 +55,51 @@ fn edge_of(book: &[u8], table: &[u16; PLACES], id: SolutionEdge) -> Found
     requires { ⌜ Ready (now book) (now table) ⌝ }
     ensures { λ r. ⌜ foundEdges r ≡ identifiedIn (now (book .entry)) id ⌝ }
 {
-    let sizes = edges::sizes_within(book);
+    let sizes = opened::sizes_within(book);
     if sizes.cores + sizes.others <= (id.position as u16) {
         return Found::Nothing;
     }
-    if edges::count_of(book, id.position) == 0 {
+    if opened::count_of(book, id.position) == 0 {
         return Found::Nothing;
     }
-    if !alike::is_first(book, table, id.position) {
+    if !first_of_equals::is_first(book, table, id.position) {
         return Found::Nothing;
     }
-    named::stored_edge(book, table, id)
+    edge_by_identity::stored_edge(book, table, id)
 }
 
 // ---- edges in a row
 
-// Where a row of edges has come: the vertex, the sum of the weights, and the kinds, a binary digit for each
+// What a row of edges has reached: the vertex, the sum of the weights, and the kinds, a binary digit for each
 // edge, 1 for core.
-struct Way {
+struct Reached {
     at: Vertex,
     cost: u16,
     kinds: u8,
 }
 
-// An edge goes on from where the way has come, which is not the goal.
-fn goes_on(dst: IsdAsn, way: Way, e: Edge) -> bool
-    ensures { λ r. ⌜ r ≡ goesOn dst way e ⌝ }
+// An edge leaves the vertex that is reached, and that is not the destination.
+fn goes_on(dst: IsdAsn, reached: Reached, e: Edge) -> bool
+    ensures { λ r. ⌜ r ≡ goesOn dst reached e ⌝ }
 {
-    let at = way.at;
-    if edges::same_vertex(at, Vertex::AS(dst)) {
+    let at = reached.at;
+    if vertices::same_vertex(at, Vertex::AS(dst)) {
         return false;
     }
     let from = e.src;
-    edges::same_vertex(from, at)
+    vertices::same_vertex(from, at)
 }
 
-// The way one edge further.
-fn past(way: Way, e: Edge) -> Way
-    requires { ⌜ Short 2 way ⌝ }
-    ensures { λ r. ⌜ (r ≡ pastEdge way e) × (r .cost ≤ way .cost + 255) ⌝ }
+// What is reached by one edge more.
+fn one_further(reached: Reached, e: Edge) -> Reached
+    requires { ⌜ Bounded (maxEdges - 1) reached ⌝ }
+    ensures { λ r. ⌜ (r ≡ oneFurther reached e) × (r .cost ≤ reached .cost + 255) ⌝ }
 {
     let to = e.dst;
-    Way {
+    Reached {
         at: to,
-        cost: way.cost + slots::weight(e),
-        kinds: way.kinds * 2 + slots::bit(e.core),
+        cost: reached.cost + slots::weight(e),
+        kinds: reached.kinds * 2 + slots::bit(e.core),
     }
 }
 
@@ -141,7 +123,7 @@ fn own_edge(given: &[u8], count: u8, k: u8) -> SolutionEdge
     ensures { λ r. ⌜ r ≡ ownEdge (now (given .entry)) count k ⌝ }
 {
     if k < count {
-        return named_edge(given, k);
+        return records::edge(given, k);
     }
     slots::no_edge()
 }
@@ -162,20 +144,20 @@ fn own_solution(given: &[u8], count: u8, cost: u16) -> Solution
     )
 }
 
-// The way has come to the goal by edges of allowed kinds, and the record is theirs.
-fn arrives(dst: IsdAsn, given: &[u8], count: u8, way: Way) -> bool
+// The destination is reached by edges of allowed kinds, and the record is theirs.
+fn arrives(dst: IsdAsn, given: &[u8], count: u8, reached: Reached) -> bool
     requires { ⌜ length (now given) ≡ solutionSize ⌝ }
     requires { ⌜ count ≤ maxEdges ⌝ }
-    ensures { λ r. ⌜ r ≡ hasArrived dst (now (given .entry)) count way ⌝ }
+    ensures { λ r. ⌜ r ≡ hasArrived dst (now (given .entry)) count reached ⌝ }
 {
-    let at = way.at;
-    if !edges::same_vertex(at, Vertex::AS(dst)) {
+    let at = reached.at;
+    if !vertices::same_vertex(at, Vertex::AS(dst)) {
         return false;
     }
-    if !kinds_allowed(count, way.kinds) {
+    if !kinds_allowed(count, reached.kinds) {
         return false;
     }
-    same_record(given, own_solution(given, count, way.cost))
+    same_record(given, own_solution(given, count, reached.cost))
 }
 
 // ---- all
@@ -194,31 +176,29 @@ fn is_chain(
     requires { ⌜ count ≤ maxEdges ⌝ }
     ensures { λ r. ⌜ r ≡ completed (now (book .entry)) dst (now (given .entry)) count (begun src) 0 ⌝ }
 {
-    let mut way = Way {
+    let mut reached = Reached {
         at: Vertex::AS(src),
         cost: 0,
         kinds: 0,
     };
     let mut x: u8 = 0;
     while x < count {
-        let id = named_edge(given, x);
+        let id = records::edge(given, x);
         let found = edge_of(book, table, id);
         let Found::Edge(e) = found else {
             return false;
         };
-        if !goes_on(dst, way, e) {
+        if !goes_on(dst, reached, e) {
             return false;
         }
-        way = past(way, e);
+        reached = one_further(reached, e);
         x += 1;
     }
-    arrives(dst, given, count, way)
+    arrives(dst, given, count, reached)
 }
 
-// Where the edge count stands in a record, and the most that it can be.
-const COUNT: usize = 2;
-
-const MOST: u8 = 3;
+// The most edges that a record can name.
+const MOST: u8 = Solution::EDGES as u8;
 
 // The chain of a record in an accepted book. Its length is tested first: the compiler then knows it at every read.
 fn chain_in(src: IsdAsn, dst: IsdAsn, book: &[u8], table: &[u16; PLACES], given: &[u8]) -> Chain
@@ -228,7 +208,7 @@ fn chain_in(src: IsdAsn, dst: IsdAsn, book: &[u8], table: &[u16; PLACES], given:
     if given.len() != Solution::SIZE {
         return Chain::Stranger;
     }
-    let count = octets::byte(given, COUNT);
+    let count = records::edge_count(given);
     if MOST < count {
         return Chain::Stranger;
     }

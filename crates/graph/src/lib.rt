@@ -8,29 +8,23 @@ ghost use Rattle.spec.specs.Records.{slots};
 ghost use Rattle.spec.specs.Answers.{listing};
 ghost use Rattle.graph.specs.Ready.{Ready};
 
-mod alike;
 mod chains;
+mod edge_by_identity;
 mod edges;
-mod firsts;
-mod named;
+mod first_of_equals;
+mod opened;
 mod search;
 mod slots;
+mod vertices;
 
 use book::PLACES;
 pub use chains::chain_of;
-use spec::Edge;
 use spec::IsdAsn;
 use spec::Limits;
 use spec::ListAnswer;
 use spec::Refusal;
 use spec::Solution;
 use spec::Verdict;
-
-// What is found between two vertices.
-pub enum Found {
-    Edge(Edge),
-    Nothing,
-}
 
 // The chain that a record is of: a refused book has none, a stranger's record is of none, and of a chain the
 // number of its edges, which are those that the record names.

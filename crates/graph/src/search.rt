@@ -7,20 +7,22 @@ ghost use Prim.Native.Nat.{_-_, _≤_, _<_};
 ghost use Rattle.spec.specs.declared.Vertex.the-variants.{AS};
 ghost use Rattle.spec.specs.Limits.{maxSegments};
 ghost use Rattle.spec.specs.Basics.{if_then_else_, range};
-ghost use Rattle.spec.specs.Book.{segmentAt, segments, segmentCount, cores};
+ghost use Rattle.spec.specs.Book.{segmentAt, segmentCount, cores};
 ghost use Rattle.graph.specs.Lookup.{foundEdges};
 ghost use Rattle.graph.specs.Leaving.{entryCount, peerCountOf, peerUp, upsAt};
 ghost use Rattle.graph.specs.Search.{overFirsts, endsAtAs, chainsFrom, triplesIn, acrossWith, chainsWith, chainsIn, foundChains};
 ghost use Rattle.graph.specs.Pushed.{Room, Pushes};
 ghost use Rattle.graph.specs.Ready.{Ready};
-ghost use Rattle.graph.specs.Firsts.{firstAt};
+ghost use Rattle.graph.specs.FirstOfEquals.{firstAt};
 ghost use Rattle.graph.specs.Prepared.{begins, arrives, Planned, Prepared};
-use crate::Found;
 use crate::edges;
-use crate::edges::Ends;
-use crate::edges::PLACES;
-use crate::firsts;
+use crate::edges::Found;
+use crate::first_of_equals;
+use crate::opened;
+use crate::opened::Ends;
 use crate::slots;
+use crate::vertices;
+use book::PLACES;
 use spec::Edge;
 use spec::IsdAsn;
 use spec::Limits;
@@ -63,7 +65,7 @@ fn triple_in(
     ensures { λ r. ⌜ Pushes (q .slots) (n, now (out .entry)) (r, now (out .exit)) (triplesIn (now (book .entry)) (q .dst) e f (segmentAt (now (book .entry)) k)) ⌝ }
 {
     let dst = q.dst;
-    let j = edges::as_joint_of(book, table, k, a, dst);
+    let j = edges::edge_between_ases(book, table, k, a, dst);
     if !j.found {
         return n;
     }
@@ -73,7 +75,7 @@ fn triple_in(
         n,
         e,
         f,
-        edges::edge_at(k, Vertex::AS(a), dst, j),
+        edges::whole_edge(k, Vertex::AS(a), dst, j),
     )
 }
 
@@ -125,7 +127,7 @@ fn across_with(
 {
     let to = f.dst;
     let dst = q.dst;
-    if edges::same_vertex(to, Vertex::AS(dst)) {
+    if vertices::same_vertex(to, Vertex::AS(dst)) {
         return slots::push_two(out, q.slots, n, e, f);
     }
     let Vertex::AS(a) = to else {
@@ -205,11 +207,17 @@ fn as_pair_in(
     ensures { λ r. ⌜ Pushes (q .slots) (n, now (out .entry)) (r, now (out .exit)) (chainsWith (now (book .entry)) (q .dst) e (segmentAt (now (book .entry)) k)) ⌝ }
 {
     let dst = q.dst;
-    let j = edges::as_joint_of(book, table, k, a, dst);
+    let j = edges::edge_between_ases(book, table, k, a, dst);
     if !j.found {
         return n;
     }
-    slots::push_two(out, q.slots, n, e, edges::edge_at(k, Vertex::AS(a), dst, j))
+    slots::push_two(
+        out,
+        q.slots,
+        n,
+        e,
+        edges::whole_edge(k, Vertex::AS(a), dst, j),
+    )
 }
 
 fn as_pairs(
@@ -240,7 +248,7 @@ fn as_pairs(
 }
 
 // An edge that ends anywhere, and one of the non-core segment at k that arrives.
-fn pair_in(
+fn link_pair_in(
     book: &[u8],
     table: &[u16; PLACES],
     q: Query,
@@ -256,11 +264,11 @@ fn pair_in(
 {
     let from = e.dst;
     let dst = q.dst;
-    let j = edges::joint_of(book, table, k, from, dst);
+    let j = edges::edge_to_as(book, table, k, from, dst);
     if !j.found {
         return n;
     }
-    slots::push_two(out, q.slots, n, e, edges::edge_at(k, from, dst, j))
+    slots::push_two(out, q.slots, n, e, edges::whole_edge(k, from, dst, j))
 }
 
 // The same for all, of an edge that ends at a peering end.
@@ -283,7 +291,7 @@ fn link_pairs(
         if q.slots < n {
             return n;
         }
-        n = pair_in(book, table, q, k, e, out, n);
+        n = link_pair_in(book, table, q, k, e, out, n);
         k = plan[NEXT + (k as usize + 1)];
     }
     n
@@ -307,7 +315,7 @@ fn chains_from(
 {
     let to = e.dst;
     let dst = q.dst;
-    if edges::same_vertex(to, Vertex::AS(dst)) {
+    if vertices::same_vertex(to, Vertex::AS(dst)) {
         return slots::push_one(out, q.slots, n, e);
     }
     let Vertex::AS(a) = to else {
@@ -357,7 +365,7 @@ fn peer_chains(
     requires { ⌜ Room (q .slots) start (now out) ⌝ }
     ensures { λ r. ⌜ Pushes (q .slots) (start, now (out .entry)) (r, now (out .exit)) (flatMap (chainsFrom (now (book .entry)) (q .dst)) (flatMap (peerUp (segmentAt (now (book .entry)) k) i) (range 0 (peerCountOf (segmentAt (now (book .entry)) k) i)))) ⌝ }
 {
-    let count = edges::peer_count(book, table, k, i);
+    let count = opened::peer_count(book, table, k, i);
     let mut n = start;
     let mut p: u8 = 0;
     while (p as usize) < count {
@@ -420,7 +428,7 @@ fn chains_in(
     ensures { λ r. ⌜ Pushes (q .slots) (n, now (out .entry)) (r, now (out .exit)) (chainsIn (now (book .entry)) (q .dst) (q .src) (segmentAt (now (book .entry)) k)) ⌝ }
 {
     let src = q.src;
-    let count = edges::entry_count(book, k);
+    let count = opened::count_of(book, k);
     if count == 0 {
         return n;
     }
@@ -428,9 +436,9 @@ fn chains_in(
         let found = edges::core_leaving(book, table, k, Vertex::AS(src));
         return chains_of(book, table, plan, q, found, out, n);
     }
-    let leaf = edges::leaf_as(book, table, k);
-    if edges::same_as(leaf, src) {
-        return leaf_chains(book, table, plan, q, k, count as u8, out, n);
+    let leaf = opened::leaf_as(book, table, k);
+    if vertices::same_as(leaf, src) {
+        return leaf_chains(book, table, plan, q, k, count, out, n);
     }
     let found = edges::between(book, table, k, Vertex::AS(src), leaf);
     chains_of(book, table, plan, q, found, out, n)
@@ -463,7 +471,7 @@ fn all_chains(
 
 // Where chains may begin and arrive: of equal segments only in the first. A core segment has no last edge that the plan
 // is asked for, and its entries are not looked at.
-fn ends_of(book: &[u8], table: &[u16; PLACES], q: Query, k: u8, first: u8) -> Ends
+fn begins_and_arrives(book: &[u8], table: &[u16; PLACES], q: Query, k: u8, first: u8) -> Ends
     requires { ⌜ Ready (now book) (now table) ⌝ }
     requires { ⌜ k < segmentCount (now book) ⌝ }
     requires { ⌜ q .cores ≡ cores (now book) ⌝ }
@@ -482,7 +490,7 @@ fn ends_of(book: &[u8], table: &[u16; PLACES], q: Query, k: u8, first: u8) -> En
             dst: false,
         };
     }
-    edges::ends_in(book, table, k, q.src, q.dst)
+    opened::ends_among_entries(book, table, k, q.src, q.dst)
 }
 
 // The next position where chains may arrive, from k on: k itself, or that from the position after it.
@@ -499,14 +507,14 @@ fn plan_of(book: &[u8], table: &[u16; PLACES], q: Query) -> [u8; PLAN]
     ensures { λ r. ⌜ Planned (now (book .entry)) (q .src) (q .dst) (q .count) 0 r ⌝ }
 {
     let count = q.count;
-    let firsts = firsts::firsts_of(book, table, count);
+    let firsts = first_of_equals::firsts_of(book, table, count);
     let mut plan = [0u8; PLAN];
     plan[NEXT + (count as usize)] = count;
     let mut next = count;
     let mut k = count;
     while k > 0 {
         k -= 1;
-        let ends = ends_of(book, table, q, k, firsts[k as usize]);
+        let ends = begins_and_arrives(book, table, q, k, firsts[k as usize]);
         next = next_at(ends.dst, k, next);
         plan[k as usize] = slots::bit(ends.src);
         plan[NEXT + (k as usize)] = next;
@@ -527,10 +535,10 @@ pub(crate) fn search(
     requires { ⌜ Room slots 0 (now out) ⌝ }
     ensures { λ r. ⌜ Pushes slots (0, now (out .entry)) (r, now (out .exit)) (foundChains (now (book .entry)) dst src) ⌝ }
 {
-    if edges::same_as(src, dst) {
+    if vertices::same_as(src, dst) {
         return 0;
     }
-    let sizes = segment::sizes(book);
+    let sizes = opened::sizes_within(book);
     let count = (sizes.cores + sizes.others) as u8;
     let q = Query {
         cores: sizes.cores as u8,

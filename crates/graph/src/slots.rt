@@ -1,4 +1,4 @@
-// The records of solutions, and the slots of a lent buffer, which are filled from the front. The count
+// What the records of chains say, and the slots of a lent buffer, which are filled from the front. The count
 // stops at one past the slots there are.
 ghost use mathlib.Core.Path.{_≡_};
 ghost use mathlib.Core.List.{[], _∷_};
@@ -6,9 +6,10 @@ ghost use Prim.Native.Nat.{_+_, _*_, _≤_};
 ghost use lib.ListN.{length, take, drop};
 ghost use Rattle.spec.specs.Limits.{solutionSize};
 ghost use Rattle.spec.specs.Order.{solutionEdge};
-ghost use Rattle.spec.specs.Records.{bit, noEdge, solutionOf};
+ghost use Rattle.spec.specs.Records.{bit, noEdge};
 ghost use Rattle.output.specs.Write.{written};
-ghost use Rattle.graph.specs.Pushed.{recordOctets, pushRecord, Room, Pushes};
+ghost use Rattle.records.specs.Octets.{recordOctets};
+ghost use Rattle.graph.specs.Pushed.{pushRecord, Room, Pushes};
 use spec::Edge;
 use spec::Solution;
 use spec::SolutionEdge;
@@ -47,57 +48,6 @@ pub(crate) fn no_edge() -> SolutionEdge
     }
 }
 
-// ---- the record of a chain
-
-pub(crate) fn one(e: Edge) -> Solution
-    ensures { λ r. ⌜ r ≡ solutionOf (e ∷ []) ⌝ }
-{
-    Solution::new(weight(e), 1, [edge(e), no_edge(), no_edge()])
-}
-
-pub(crate) fn two(e: Edge, f: Edge) -> Solution
-    ensures { λ r. ⌜ r ≡ solutionOf (e ∷ f ∷ []) ⌝ }
-{
-    Solution::new(weight(e) + weight(f), 2, [edge(e), edge(f), no_edge()])
-}
-
-pub(crate) fn three(e: Edge, f: Edge, g: Edge) -> Solution
-    ensures { λ r. ⌜ r ≡ solutionOf (e ∷ f ∷ g ∷ []) ⌝ }
-{
-    Solution::new(
-        weight(e) + weight(f) + weight(g),
-        3,
-        [edge(e), edge(f), edge(g)],
-    )
-}
-
-pub(crate) fn octets_of(s: Solution) -> [u8; Solution::SIZE]
-    ensures { λ r. ⌜ r ≡ recordOctets s ⌝ }
-{
-    let cost = s.cost;
-    let e = s.edges[0];
-    let f = s.edges[1];
-    let g = s.edges[2];
-    [
-        (cost / 256) as u8,
-        (cost % 256) as u8,
-        s.count,
-        0,
-        e.position,
-        e.shortcut,
-        e.peer,
-        bit(e.construction),
-        f.position,
-        f.shortcut,
-        f.peer,
-        bit(f.construction),
-        g.position,
-        g.shortcut,
-        g.peer,
-        bit(g.construction),
-    ]
-}
-
 // ---- the slots
 
 // Writes a record at index `at`, byte by byte over a length that is fixed: the compiler makes one store of it.
@@ -119,7 +69,7 @@ fn push(out: &mut [u8], slots: usize, n: usize, s: Solution) -> usize
     ensures { λ r. ⌜ (r, now (out .exit)) ≡ pushRecord slots (n, now (out .entry)) (recordOctets s) ⌝ }
 {
     if n < slots {
-        let r = octets_of(s);
+        let r = records::solution_octets(s);
         put_record(&r, out, Solution::SIZE * n);
         return n + 1;
     }
@@ -130,19 +80,23 @@ pub(crate) fn push_one(out: &mut [u8], slots: usize, n: usize, e: Edge) -> usize
     requires { ⌜ Room slots n (now out) ⌝ }
     ensures { λ r. ⌜ Pushes slots (n, now (out .entry)) (r, now (out .exit)) ((e ∷ []) ∷ []) ⌝ }
 {
-    push(out, slots, n, one(e))
+    let s = Solution::new(weight(e), 1, [edge(e), no_edge(), no_edge()]);
+    push(out, slots, n, s)
 }
 
 pub(crate) fn push_two(out: &mut [u8], slots: usize, n: usize, e: Edge, f: Edge) -> usize
     requires { ⌜ Room slots n (now out) ⌝ }
     ensures { λ r. ⌜ Pushes slots (n, now (out .entry)) (r, now (out .exit)) ((e ∷ f ∷ []) ∷ []) ⌝ }
 {
-    push(out, slots, n, two(e, f))
+    let s = Solution::new(weight(e) + weight(f), 2, [edge(e), edge(f), no_edge()]);
+    push(out, slots, n, s)
 }
 
 pub(crate) fn push_three(out: &mut [u8], slots: usize, n: usize, e: Edge, f: Edge, g: Edge) -> usize
     requires { ⌜ Room slots n (now out) ⌝ }
     ensures { λ r. ⌜ Pushes slots (n, now (out .entry)) (r, now (out .exit)) ((e ∷ f ∷ g ∷ []) ∷ []) ⌝ }
 {
-    push(out, slots, n, three(e, f, g))
+    let cost = weight(e) + weight(f) + weight(g);
+    let s = Solution::new(cost, 3, [edge(e), edge(f), edge(g)]);
+    push(out, slots, n, s)
 }

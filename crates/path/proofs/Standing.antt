@@ -25,7 +25,7 @@ use Rattle.spec.proofs.BodyLaws.{entry-place, body-end, peer-place}
 use Rattle.segment.proofs.Fitting.{own-read, peers-read, peer-read, offset-small}
 use Rattle.book.proofs.Tables.{table-at}
 use Rattle.graph.specs.Leaving.{entryCount}
-use Rattle.graph.proofs.LookupReads.{count-place, count-low}
+use Rattle.graph.proofs.OpenedReads.{count-place, count-low}
 use Rattle.path.specs.Usable.{Ready, Usable}
 use Rattle.path.specs.Places.{isLeft, linkOffset, Link, Here, entryFrom}
 

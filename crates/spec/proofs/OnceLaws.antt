@@ -325,7 +325,7 @@ module _ (digest : List ℕ → List ℕ) (b : List ℕ) where
       go ih true = refl
       go ih false = ap suc ih
 
-  length-all : (ds cs : List (List Edge)) → length (insertAll digest b ds cs) ≡ length ds + length cs
+  pub length-all : (ds cs : List (List Edge)) → length (insertAll digest b ds cs) ≡ length ds + length cs
   unfolding insertAll
   length-all ds [] = omega arith
   length-all ds (c ∷ cs) = length-all (insert digest b c ds) cs ∙ omega (arith, length-insert c ds)

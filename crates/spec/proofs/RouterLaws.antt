@@ -47,7 +47,7 @@ and-comm true false = refl
 and-comm false true = refl
 and-comm false false = refl
 
-eqb-sym : (m n : ℕ) → eqb m n ≡ eqb n m
+pub eqb-sym : (m n : ℕ) → eqb m n ≡ eqb n m
 eqb-sym m n = go (eqb m n) refl
   where
     go : (t : Bool) → eqb m n ≡ t → t ≡ eqb n m

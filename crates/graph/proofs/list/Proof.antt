@@ -1,7 +1,7 @@
 -- `list` meets its contract.
 -- Assumes nothing.
 use Rattle.graph.proofs.ListLaws.{refused-answer}
-use Rattle.graph.proofs.LookupReads.{opened-ready}
+use Rattle.graph.proofs.OpenedReads.{opened-ready}
 use borrow.Author.Needs.{needs}
 use Rattle.graph.proofs.list.Statement.{statement}
 use Rattle.graph.proofs.list.Tie as tie

@@ -3,9 +3,9 @@
 use mathlib.Core.Path.{ap, _∙_}
 use borrow.Author.Tests.{not-true, not-false}
 use Rattle.spec.specs.Basics.{sameList}
-use Rattle.graph.specs.Pushed.{recordOctets}
-use Rattle.graph.specs.Named.{hasArrived}
-use Rattle.graph.proofs.NamedTurns.{fails, passes}
+use Rattle.records.specs.Octets.{recordOctets}
+use Rattle.graph.specs.RecordWalk.{hasArrived}
+use Rattle.graph.proofs.RecordWalkTurns.{fails, passes}
 use borrow.Author.Needs.{needs}
 use Rattle.graph.proofs.chains.arrives.Statement.{statement}
 use Rattle.graph.proofs.chains.arrives.Tie as tie

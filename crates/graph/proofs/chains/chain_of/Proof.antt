@@ -1,7 +1,7 @@
 -- `chain_of` meets its contract: the table is what `book::open` leaves, and an accepted book has its chain.
 -- Assumes nothing.
-use Rattle.graph.proofs.LookupReads.{opened-ready}
-use Rattle.graph.proofs.NamedTurns.{refused-said, accepted-said}
+use Rattle.graph.proofs.OpenedReads.{opened-ready}
+use Rattle.graph.proofs.RecordWalkTurns.{refused-said, accepted-said}
 use borrow.Author.Needs.{needs}
 use Rattle.graph.proofs.chains.chain_of.Statement.{statement}
 use Rattle.graph.proofs.chains.chain_of.Tie as tie

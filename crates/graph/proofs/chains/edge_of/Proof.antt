@@ -5,7 +5,7 @@ use native.Mathlib.Omega.{arith}
 use borrow.Author.Tests.{not-true, not-false}
 use Rattle.graph.specs.Lookup.{foundEdges}
 use Rattle.graph.proofs.SearchBounds.{counted}
-use Rattle.graph.proofs.NamedPlaces.{identified-past, identified-empty, identified-first, identified-repeat}
+use Rattle.graph.proofs.IdentityPlaces.{identified-past, identified-empty, identified-first, identified-repeat}
 use borrow.Author.Needs.{needs}
 use Rattle.graph.proofs.chains.edge_of.Statement.{statement}
 use Rattle.graph.proofs.chains.edge_of.Tie as tie

@@ -1,9 +1,9 @@
--- Not from the goal, and from where the way has come.
+-- Not from the goal, and from where the reached has come.
 -- Assumes nothing.
 use mathlib.Core.Path.{ap}
 use mathlib.Core.Bool.{not}
-use Rattle.graph.specs.Named.{goesOn}
-use Rattle.graph.proofs.NamedTurns.{fails, passes}
+use Rattle.graph.specs.RecordWalk.{goesOn}
+use Rattle.graph.proofs.RecordWalkTurns.{fails, passes}
 use borrow.Author.Needs.{needs}
 use Rattle.graph.proofs.chains.goes_on.Statement.{statement}
 use Rattle.graph.proofs.chains.goes_on.Tie as tie

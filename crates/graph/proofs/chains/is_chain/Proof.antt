@@ -4,17 +4,17 @@ use mathlib.Core.Path.{_≡_, refl, sym, _∙_}
 use Prim.Native.Nat.{_≤_, _-_}
 use native.Mathlib.Omega.{arith}
 use borrow.Author.Tests.{not-true, not-false}
-use Rattle.graph.specs.Named.{Short, begun, completed}
-use Rattle.graph.proofs.NamedTurns.{short-two, short-past, all-passed, edge-gone, edge-astray, edge-passed}
+use Rattle.graph.specs.RecordWalk.{Bounded, begun, completed}
+use Rattle.graph.proofs.RecordWalkTurns.{bounded-two, bounded-further, all-passed, edge-gone, edge-astray, edge-passed}
 use borrow.Author.Needs.{needs}
 use Rattle.graph.proofs.chains.is_chain.Statement.{statement}
 use Rattle.graph.proofs.chains.is_chain.Tie as tie
 
 abbrev Inv-loop : tie.InvT-loop
-Inv-loop dst book table given count way₀ x₀ way x = (x ≤ count) × Short x way × (completed book dst given count way₀ 0 ≡ completed book dst given count way x)
+Inv-loop dst book table given count reached₀ x₀ reached x = (x ≤ count) × Bounded x reached × (completed book dst given count reached₀ 0 ≡ completed book dst given count reached x)
 
 abbrev μ-loop : tie.MeasureT-loop
-μ-loop dst book table given count way₀ x₀ way x = count - x
+μ-loop dst book table given count reached₀ x₀ reached x = count - x
 
 loop-holds : tie.Need-loop-holds Inv-loop μ-loop
 loop-holds c = (omega arith, record { cost = omega arith; kinds = omega arith }, refl)
@@ -24,14 +24,14 @@ edge-of-requires c κs = c .before .before .before .before .before .pre .0
 
 returns : tie.Need-returns Inv-loop μ-loop
 unfolding begun
-returns c = sym (c .before .before .before .before .before .loop .inv .2 ∙ edge-gone _ _ _ _ _ _ (c .before .before .before .before .loop-test .taken) (c .before .before .before .named-edge .ensures) _ (c .before .before .edge-of .ensures) (c .enum-told .given .1))
+returns c = sym (c .before .before .before .before .before .loop .inv .2 ∙ edge-gone _ _ _ _ _ _ (c .before .before .before .before .loop-test .taken) (c .before .before .before .edge .ensures) _ (c .before .before .edge-of .ensures) (c .enum-told .given .1))
 
 returns-2 : tie.Need-returns-2 Inv-loop μ-loop
 unfolding begun
-returns-2 c = sym (c .before .before .before .before .before .before .before .before .loop .inv .2 ∙ edge-astray _ _ _ _ _ _ (c .before .before .before .before .before .before .before .loop-test .taken) (c .before .before .before .before .before .before .named-edge .ensures) _ (c .before .before .before .before .before .edge-of .ensures) (c .before .before .before .found .given .1) (c .before .goes-on .ensures) (not-true _ (c .if1 .taken)))
+returns-2 c = sym (c .before .before .before .before .before .before .before .before .loop .inv .2 ∙ edge-astray _ _ _ _ _ _ (c .before .before .before .before .before .before .before .loop-test .taken) (c .before .before .before .before .before .before .edge .ensures) _ (c .before .before .before .before .before .edge-of .ensures) (c .before .before .before .found .given .1) (c .before .goes-on .ensures) (not-true _ (c .if1 .taken)))
 
-past-requires : tie.Need-past-requires Inv-loop μ-loop
-past-requires c κs = short-two _ _ (omega (arith, c .before .before .before .before .before .before .before .before .before .before .before .pre .1 .1)) (c .before .before .before .before .before .before .before .before .loop .inv .1)
+one-further-requires : tie.Need-one-further-requires Inv-loop μ-loop
+one-further-requires c κs = bounded-two _ _ (omega (arith, c .before .before .before .before .before .before .before .before .before .before .before .pre .1 .1)) (c .before .before .before .before .before .before .before .before .loop .inv .1)
 
 add-x : tie.Need-add-x Inv-loop μ-loop
 add-x c = omega (arith, c .before .before .before .before .before .before .before .before .before .before .before .before .pre .1 .1)
@@ -42,8 +42,8 @@ loop-less c = omega arith
 loop-again : tie.Need-loop-again Inv-loop μ-loop
 loop-again c = (
   omega arith,
-  short-past _ _ _ (omega (arith, c .before .before .before .before .before .before .before .before .before .before .before .before .pre .1 .1)) (c .before .before .before .before .before .before .before .before .before .loop .inv .1) (c .past .ensures .0) (c .past .ensures .1),
-  c .before .before .before .before .before .before .before .before .before .loop .inv .2 ∙ edge-passed _ _ _ _ _ _ (c .before .before .before .before .before .before .before .before .loop-test .taken) (c .before .before .before .before .before .before .before .named-edge .ensures) _ (c .before .before .before .before .before .before .edge-of .ensures) (c .before .before .before .before .found .given .1) (c .before .before .goes-on .ensures) (not-false _ (c .before .if1 .left)) (c .past .ensures .0),
+  bounded-further _ _ _ (omega (arith, c .before .before .before .before .before .before .before .before .before .before .before .before .pre .1 .1)) (c .before .before .before .before .before .before .before .before .before .loop .inv .1) (c .one-further .ensures .0) (c .one-further .ensures .1),
+  c .before .before .before .before .before .before .before .before .before .loop .inv .2 ∙ edge-passed _ _ _ _ _ _ (c .before .before .before .before .before .before .before .before .loop-test .taken) (c .before .before .before .before .before .before .before .edge .ensures) _ (c .before .before .before .before .before .before .edge-of .ensures) (c .before .before .before .before .found .given .1) (c .before .before .goes-on .ensures) (not-false _ (c .before .if1 .left)) (c .one-further .ensures .0),
 )
 
 arrives-requires : tie.Need-arrives-requires Inv-loop μ-loop
@@ -67,7 +67,7 @@ is-chain-spec =
     returns
     (λ c κs. search needs)
     returns-2
-    past-requires
+    one-further-requires
     add-x
     loop-less
     loop-again

@@ -1,6 +1,6 @@
 -- `kinds_allowed` meets its contract.
 -- Assumes nothing.
-use Rattle.graph.proofs.NamedTurns.{one-allowed, two-allowed, three-allowed}
+use Rattle.graph.proofs.RecordWalkTurns.{one-allowed, two-allowed, three-allowed}
 use Rattle.graph.proofs.chains.kinds_allowed.Statement.{statement}
 use Rattle.graph.proofs.chains.kinds_allowed.Tie as tie
 

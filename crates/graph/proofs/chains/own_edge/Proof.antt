@@ -1,12 +1,12 @@
 -- The record's own edge, or none past those that it names.
 -- Assumes nothing.
-use Rattle.graph.proofs.NamedTurns.{own-used, own-unused}
+use Rattle.graph.proofs.RecordWalkTurns.{own-used, own-unused}
 use borrow.Author.Needs.{needs}
 use Rattle.graph.proofs.chains.own_edge.Statement.{statement}
 use Rattle.graph.proofs.chains.own_edge.Tie as tie
 
 returns : tie.Need-returns
-returns c = own-used _ _ _ (c .before .if1 .taken) (c .named-edge .ensures)
+returns c = own-used _ _ _ (c .before .if1 .taken) (c .edge .ensures)
 
 returns-2 : tie.Need-returns-2
 returns-2 c = own-unused _ _ _ (c .before .if1 .left) (c .no-edge .ensures)

@@ -1,6 +1,6 @@
 -- Three edges, of which some are unused.
 -- Assumes nothing.
-use Rattle.graph.proofs.NamedTurns.{own-solution}
+use Rattle.graph.proofs.RecordWalkTurns.{own-solution}
 use borrow.Author.Needs.{needs}
 use Rattle.graph.proofs.chains.own_solution.Statement.{statement}
 use Rattle.graph.proofs.chains.own_solution.Tie as tie

@@ -3,8 +3,9 @@
 use native.Mathlib.Omega.{arith}
 use mathlib.Core.Path.{sym, _∙_}
 use Rattle.graph.specs.Lookup.{foundEdges}
-use Rattle.graph.proofs.LookupReads.{leaf-read, empty-between}
-use Rattle.graph.proofs.JointLaws.{none-joint, edge-joint}
+use Rattle.graph.proofs.OpenedReads.{leaf-read}
+use Rattle.graph.proofs.EdgeReads.{empty-between}
+use Rattle.graph.proofs.EdgeFoundLaws.{none-whole, edge-whole}
 use borrow.Author.Needs.{needs}
 use Rattle.graph.proofs.edges.between.Statement.{statement}
 use Rattle.graph.proofs.edges.between.Tie as tie
@@ -19,19 +20,19 @@ core-between-requires c κs =
     let p = c .before .before .before .before .before .before .pre in
     (record { ready = p .0; below = p .1; count = n; some = omega arith }, (sym (c .before .is-core .ensures) ∙ c .if2 .taken, leaf-read _ n (c .before .before .as-at .ensures)))
 
-leaf-joint-requires : tie.Need-leaf-joint-requires
-leaf-joint-requires c κs =
+edge-at-leaf-requires : tie.Need-edge-at-leaf-requires
+edge-at-leaf-requires c κs =
     let n = c .before .before .before .before .count-of .ensures .0 in
     let p = c .before .before .before .before .before .before .pre in
     (record { ready = p .0; below = p .1; count = n; some = omega arith }, (sym (c .before .is-core .ensures) ∙ c .if2 .left, leaf-read _ n (c .before .before .as-at .ensures)))
 
 returns-3 : tie.Need-returns-3
 unfolding foundEdges
-returns-3 c = edge-joint _ _ _ _ (c .before .before .leaf-joint .ensures) (c .before .if3 .taken) (c .edge-at .ensures)
+returns-3 c = edge-whole _ _ _ _ (c .before .before .edge-at-leaf .ensures) (c .before .if3 .taken) (c .whole-edge .ensures)
 
 returns-4 : tie.Need-returns-4
 unfolding foundEdges
-returns-4 c = none-joint _ _ _ _ (c .before .leaf-joint .ensures) (c .if3 .left)
+returns-4 c = none-whole _ _ _ _ (c .before .edge-at-leaf .ensures) (c .if3 .left)
 
 pub between-spec : {M : Type 1} → statement M
 between-spec =
@@ -44,7 +45,7 @@ between-spec =
     (λ c κs. search needs)
     core-between-requires
     (λ c. search needs)
-    leaf-joint-requires
+    edge-at-leaf-requires
     (λ c κs. search needs)
     returns-3
     returns-4)

@@ -8,16 +8,10 @@ use borrow.Author.Needs.{needs}
 use Rattle.graph.proofs.edges.both_same.Statement.{statement}
 use Rattle.graph.proofs.edges.both_same.Tie as tie
 
-same-as-requires : tie.Need-same-as-requires
-same-as-requires c κs = search needs
-
 returns : tie.Need-returns
 returns c =
     let a = c .before .before .args in
     sym (ap (λ x. x && sameAs (a .c) (a .d)) (sym (c .before .same-as .ensures) ∙ not-true _ (c .if1 .taken)))
-
-same-as-requires-2 : tie.Need-same-as-requires-2
-same-as-requires-2 c κs = search needs
 
 returns-2 : tie.Need-returns-2
 returns-2 c =
@@ -25,4 +19,4 @@ returns-2 c =
     c .same-as2 .ensures ∙ sym (ap (λ x. x && sameAs (a .c) (a .d)) (sym (c .before .before .same-as .ensures) ∙ not-false _ (c .before .if1 .left)))
 
 pub both-same-spec : {M : Type 1} → statement M
-both-same-spec = tie.close (tie.spec same-as-requires returns same-as-requires-2 returns-2)
+both-same-spec = tie.close (tie.spec (λ c κs. search needs) returns (λ c κs. search needs) returns-2)

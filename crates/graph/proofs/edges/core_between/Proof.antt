@@ -1,16 +1,12 @@
 -- `core_between` meets its contract.
 -- Assumes nothing.
+use mathlib.Core.Path.{ap, _∙_}
+use mathlib.Core.List.{[], _∷_}
 use Rattle.graph.specs.Lookup.{foundEdges}
-use Rattle.graph.proofs.LookupReads.{core-made, core-none, between-peering}
+use Rattle.graph.proofs.EdgeReads.{core-made, core-none, between-peering}
 use borrow.Author.Needs.{needs}
 use Rattle.graph.proofs.edges.core_between.Statement.{statement}
 use Rattle.graph.proofs.edges.core_between.Tie as tie
-
-enum-known-v : tie.Need-enum-known-v
-enum-known-v c = search needs
-
-enum-told : tie.Need-enum-told
-enum-told c = search needs
 
 returns : tie.Need-returns
 unfolding foundEdges
@@ -19,25 +15,18 @@ returns c =
     let p = s .pre in
     between-peering _ _ (p .1 .0) (p .0 .count) (p .0 .some) (c .enum-told .given .1) _
 
-as-at-requires : tie.Need-as-at-requires
-as-at-requires c κs = search needs
-
-joins-requires : tie.Need-joins-requires
-joins-requires c κs = search needs
-
-sub-t12 : tie.Need-sub-t12
-sub-t12 c = search needs
-
-same-as-requires : tie.Need-same-as-requires
-same-as-requires c κs = search needs
+edge-of-core-requires : tie.Need-edge-of-core-requires
+edge-of-core-requires c κs = c .before .before .before .before .before .before .before .before .pre .0 .some
 
 returns-2 : tie.Need-returns-2
 unfolding foundEdges
 returns-2 c =
-    let s = c .before .before .before .before .before .before .before .before in
+    let e = c .before in
+    let s = e .before .before .before .before .before .before .before .before in
     let p = s .pre in
-    core-made (s .args .book .now) (s .args .k) (p .1 .0) (p .0 .count) (p .0 .some) (c .before .before .before .before .before .v .given .1)
-    (c .before .before .before .as-at .ensures) (p .1 .1) _ (c .before .before .joins .ensures) (c .before .if1 .taken) (c .same-as .ensures)
+    ap (λ x. x ∷ []) (c .edge-of-core .ensures)
+    ∙ core-made (s .args .book .now) (s .args .k) (p .1 .0) (p .0 .count) (p .0 .some) (e .before .before .before .before .before .v .given .1)
+    (e .before .before .before .as-at .ensures) (p .1 .1) _ (e .before .before .joins .ensures) (e .before .if1 .taken) (e .same-as .ensures)
 
 returns-3 : tie.Need-returns-3
 unfolding foundEdges
@@ -51,12 +40,12 @@ pub core-between-spec : {M : Type 1} → statement M
 core-between-spec =
     tie.close
     (tie.spec
-    enum-known-v
-    enum-told
+    (λ c. search needs)
+    (λ c. search needs)
     returns
-    as-at-requires
-    joins-requires
-    sub-t12
-    same-as-requires
+    (λ c κs. search needs)
+    (λ c κs. search needs)
+    (λ c κs. search needs)
+    edge-of-core-requires
     returns-2
     returns-3)

@@ -1,24 +1,18 @@
 -- `core_leaving` meets its contract.
 -- Assumes nothing.
 use native.Mathlib.Omega.{arith}
+use mathlib.Core.Path.{ap, _∙_}
+use mathlib.Core.List.{[], _∷_}
 use Rattle.graph.specs.Lookup.{foundEdges}
-use Rattle.graph.proofs.LookupReads.{leaf-read, empty-leaving, leaving-first, leaving-last, leaving-none, leaving-peering}
+use Rattle.graph.proofs.OpenedReads.{leaf-read}
+use Rattle.graph.proofs.EdgeReads.{empty-leaving, leaving-first, leaving-last, leaving-none, leaving-peering}
 use borrow.Author.Needs.{needs}
 use Rattle.graph.proofs.edges.core_leaving.Statement.{statement}
 use Rattle.graph.proofs.edges.core_leaving.Tie as tie
 
-count-of-requires : tie.Need-count-of-requires
-count-of-requires c κs = search needs
-
 returns : tie.Need-returns
 unfolding foundEdges
 returns c = empty-leaving _ (c .before .count-of .ensures .0) (c .if1 .taken) _
-
-enum-known-v : tie.Need-enum-known-v
-enum-known-v c = search needs
-
-enum-told : tie.Need-enum-told
-enum-told c = search needs
 
 returns-2 : tie.Need-returns-2
 unfolding foundEdges
@@ -26,46 +20,29 @@ returns-2 c =
     let n = c .before .before .before in
     leaving-peering _ _ (n .before .before .pre .1 .1) (n .count-of .ensures .0) (omega arith) (c .enum-told .given .1)
 
-as-at-requires : tie.Need-as-at-requires
-as-at-requires c κs = search needs
-
-sub-as-at : tie.Need-sub-as-at
-sub-as-at c = search needs
-
-as-at-requires-2 : tie.Need-as-at-requires-2
-as-at-requires-2 c κs = search needs
-
-same-as-requires : tie.Need-same-as-requires
-same-as-requires c κs = search needs
-
-sub-t14 : tie.Need-sub-t14
-sub-t14 c = search needs
-
 returns-3 : tie.Need-returns-3
 unfolding foundEdges
 returns-3 c =
-    let f = c .before .before .before in
+    let e = c .before in
+    let f = e .before .before .before in
     let n = f .before .before .before .before .before in
     let s = n .before .before in
-    leaving-first (s .args .book .now) (s .args .k) (s .pre .1 .1) (n .count-of .ensures .0) (omega arith) (f .before .before .v .given .1)
-    (f .as-at .ensures) (leaf-read _ (n .count-of .ensures .0) (c .before .before .as-at2 .ensures)) (c .before .same-as .ensures) (c .if2 .taken)
-
-same-as-requires-2 : tie.Need-same-as-requires-2
-same-as-requires-2 c κs = search needs
-
-sub-t19 : tie.Need-sub-t19
-sub-t19 c = search needs
+    ap (λ x. x ∷ []) (c .edge-of-core .ensures)
+    ∙ leaving-first (s .args .book .now) (s .args .k) (s .pre .1 .1) (n .count-of .ensures .0) (omega arith) (f .before .before .v .given .1)
+    (f .as-at .ensures) (leaf-read _ (n .count-of .ensures .0) (e .before .before .as-at2 .ensures)) (e .before .same-as .ensures) (e .if2 .taken)
 
 returns-4 : tie.Need-returns-4
 unfolding foundEdges
 returns-4 c =
-    let d = c .before .before in
+    let e = c .before in
+    let d = e .before .before in
     let f = d .before .before .before in
     let n = f .before .before .before .before .before in
     let s = n .before .before in
-    leaving-last (s .args .book .now) (s .args .k) (s .pre .1 .1) (n .count-of .ensures .0) (omega arith) (f .before .before .v .given .1)
+    ap (λ x. x ∷ []) (c .edge-of-core2 .ensures)
+    ∙ leaving-last (s .args .book .now) (s .args .k) (s .pre .1 .1) (n .count-of .ensures .0) (omega arith) (f .before .before .v .given .1)
     (f .as-at .ensures) (leaf-read _ (n .count-of .ensures .0) (d .before .before .as-at2 .ensures)) (d .before .same-as .ensures) (d .if2 .left)
-    (c .before .same-as2 .ensures) (c .if3 .taken)
+    (e .before .same-as2 .ensures) (e .if3 .taken)
 
 returns-5 : tie.Need-returns-5
 unfolding foundEdges
@@ -82,18 +59,18 @@ pub core-leaving-spec : {M : Type 1} → statement M
 core-leaving-spec =
     tie.close
     (tie.spec
-    count-of-requires
+    (λ c κs. search needs)
     returns
-    enum-known-v
-    enum-told
+    (λ c. search needs)
+    (λ c. search needs)
     returns-2
-    as-at-requires
-    sub-as-at
-    as-at-requires-2
-    same-as-requires
-    sub-t14
+    (λ c κs. search needs)
+    (λ c. search needs)
+    (λ c κs. search needs)
+    (λ c κs. search needs)
+    (λ c κs. search needs)
     returns-3
-    same-as-requires-2
-    sub-t19
+    (λ c κs. search needs)
+    (λ c κs. search needs)
     returns-4
     returns-5)

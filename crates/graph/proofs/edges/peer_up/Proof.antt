@@ -1,16 +1,11 @@
 -- `peer_up` meets its contract.
 -- Assumes nothing.
 use Rattle.graph.specs.Lookup.{foundEdges}
-use Rattle.graph.proofs.LookupReads.{leaf-read, link-some, up-later, up-lower, peer-up-made}
+use Rattle.graph.proofs.OpenedReads.{leaf-read}
+use Rattle.graph.proofs.EdgeReads.{link-some, up-later, up-lower, peer-up-made}
 use borrow.Author.Needs.{needs}
 use Rattle.graph.proofs.edges.peer_up.Statement.{statement}
 use Rattle.graph.proofs.edges.peer_up.Tie as tie
-
-link-at-requires : tie.Need-link-at-requires
-link-at-requires c κs = search needs
-
-find-peer-requires : tie.Need-find-peer-requires
-find-peer-requires c κs = search needs
 
 sub-if1 : tie.Need-sub-if1
 sub-if1 c = link-some _ _ _ (c .before .before .before .pre .1 .1 .1) (c .before .link-at .ensures) (c .find-peer .ensures)
@@ -21,29 +16,11 @@ returns c =
     let q = c .before in
     up-later _ _ _ (q .before .before .before .pre .1 .1 .1) (q .before .link-at .ensures) (q .find-peer .ensures) (c .if1 .taken)
 
-find-linked-requires : tie.Need-find-linked-requires
-find-linked-requires c κs = search needs
-
 returns-2 : tie.Need-returns-2
 unfolding foundEdges
 returns-2 c =
     let q = c .before .before .before in
     up-lower _ _ _ (q .before .before .before .pre .1 .1 .1) (q .before .link-at .ensures) (c .before .find-linked .ensures) (c .if2 .taken)
-
-count-of-requires : tie.Need-count-of-requires
-count-of-requires c κs = search needs
-
-sub-as-at : tie.Need-sub-as-at
-sub-as-at c = search needs
-
-as-at-requires : tie.Need-as-at-requires
-as-at-requires c κs = search needs
-
-sub-t12 : tie.Need-sub-t12
-sub-t12 c = search needs
-
-is-core-requires : tie.Need-is-core-requires
-is-core-requires c κs = search needs
 
 returns-3 : tie.Need-returns-3
 unfolding foundEdges
@@ -63,15 +40,15 @@ pub peer-up-spec : {M : Type 1} → statement M
 peer-up-spec =
     tie.close
     (tie.spec
-    link-at-requires
-    find-peer-requires
+    (λ c κs. search needs)
+    (λ c κs. search needs)
     sub-if1
     returns
-    find-linked-requires
+    (λ c κs. search needs)
     returns-2
-    count-of-requires
-    sub-as-at
-    as-at-requires
-    sub-t12
-    is-core-requires
+    (λ c κs. search needs)
+    (λ c. search needs)
+    (λ c κs. search needs)
+    (λ c. search needs)
+    (λ c κs. search needs)
     returns-3)

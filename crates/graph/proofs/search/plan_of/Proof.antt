@@ -23,15 +23,15 @@ loop-holds c =
     let few = c .before .before .pre .1 .0 .1 in
     (omega arith, simp length-set, next-end _ _ _, plan-start _ _ _ _ few (replicate (2 * maxSegments + 1) 0) refl)
 
-ends-of-requires : tie.Need-ends-of-requires Inv-loop μ-loop
-ends-of-requires c κs =
+begins-and-arrives-requires : tie.Need-begins-and-arrives-requires Inv-loop μ-loop
+begins-and-arrives-requires c κs =
     let p = c .before .before .before .before .pre in
-    (p .0, (omega arith, (p .1 .1, c .before .before .firsts-of .ensures .told _ (omega arith))))
+    (p .0, (omega arith, (p .1 .1, c .before .before .firsts-of .ensures .each _ (omega arith))))
 
 loop-again : tie.Need-loop-again Inv-loop μ-loop
 loop-again c =
     let l = c .before .before .before .before .loop in
-    let ends = c .before .before .ends-of .ensures in
+    let ends = c .before .before .begins-and-arrives .ensures in
     let few = c .before .before .before .before .before .before .before .pre .1 .0 .1 in
     let next = next-turn _ _ _ (l .k) (omega arith) (omega arith) (ends .1) (l .inv .2) (c .before .next-at .ensures) in
     (omega arith, simp length-set (l .inv .1), next, plan-turn _ _ _ _ few (l .plan) (l .inv .1) (l .k) (omega arith) (omega arith) (ends .0) (c .bit .ensures) next (l .inv .3))
@@ -53,7 +53,7 @@ plan-of-spec =
     (λ c. search needs)
     (λ c. search needs)
     (λ c. search needs)
-    ends-of-requires
+    begins-and-arrives-requires
     (λ c κs. search needs)
     (λ c κs. search needs)
     (λ c. search needs)

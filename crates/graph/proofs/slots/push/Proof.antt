@@ -9,7 +9,7 @@ use Rattle.graph.proofs.slots.push.Statement.{statement}
 use Rattle.graph.proofs.slots.push.Tie as tie
 
 returns : tie.Need-returns
-returns c = push-room _ _ _ _ _ _ (omega arith) (omega arith) (c .before .before .before .before .before .octets-of .ensures) (c .before .before .put-record .ensures)
+returns c = push-room _ _ _ _ _ _ (omega arith) (omega arith) (c .before .before .before .before .before .solution-octets .ensures) (c .before .before .put-record .ensures)
 
 returns-2 : tie.Need-returns-2
 returns-2 c = sym (record-full _ _ _ _ (omega arith))
