@@ -1,12 +1,11 @@
 -- The walks over an edge's hops: their turns, and what they end in.
 -- Assumes nothing.
 use Prim.Native.Nat.{ℕ, _+_, _-_, _/_, _%_, _^_, _≤_, _<_, min}
-use native.Mathlib.Nat.{zero-add, add-zero}
-use native.Mathlib.Numerals.{add-one}
+use native.Mathlib.Nat.{add-zero}
 use native.Mathlib.Omega.{arith}
 use mathlib.Core.Path.{_≡_, refl, sym, ap, ap₂, _∙_}
 use mathlib.Core.Bool.{Bool, true, false, _&&_}
-use mathlib.Core.List.{List, [], _∷_, _++_, map, flatMap, reverse, reverse-cons, reverse-append, reverse-reverse, append-nil}
+use mathlib.Core.List.{List, [], _∷_, _++_, map, flatMap, reverse, reverse-cons, reverse-append, reverse-reverse}
 use lib.ListN.{length, take, drop}
 use lib.Dec.{eqb}
 use borrow.Author.Tests.{eqb-true, eq-eqb}
@@ -20,37 +19,18 @@ use Rattle.spec.specs.Book.{Segment, macAt, asEntryAt}
 use Rattle.spec.specs.Assembly.{least, unitsOf, life, mtusAt, hopOf, hopCount, usedEntries, interfacesAt, inDirection, hopsOf, interfacesOf, mtusOf, infoOf, expiryOf, segmentOf, hopsOn, interfacesOn, mtusOn, infoOn, expiryOn, isPeerHop, isPeerEdge, atShortcut, foldStep, foldMacs, idBelow, stopAt}
 use Rattle.spec.specs.Records.{hopOctets, infoOctets, interfaceAsOctets, interfaceIdOctets}
 use Rattle.spec.proofs.Membership.{not-both}
-use Rattle.spec.proofs.Lists.{map-append, map-reverse, range-suc, range-up, range-down, flatMap-append}
+use Rattle.spec.proofs.Lists.{map-append, map-reverse, map-range-last, range-up, range-down, flatMap-append, flat-one, flat-map, flat-flat}
 use Rattle.spec.proofs.ByteLaws.{info-length}
 use Rattle.spec.proofs.RouterLaws.{idBelow-next}
 use Rattle.output.specs.Write.{written}
-use Rattle.path.specs.Usable.{Usable}
+use Rattle.path.specs.Edges.{InBook}
 use Rattle.path.specs.declared.entry.Walk.{Walk}
-use Rattle.path.specs.Places.{Here, Wrote, entryFrom, passed}
+use Rattle.path.specs.Places.{StandsAt, Wrote, entryFrom, passed}
 use Rattle.path.specs.Parts.{Part, Hops, Ases, Ids, infoBytes, interfacesHere, entryBytes, edgeBytes, walked, walkedUnits, walkedMtus, stopFrom, flagsOf, Walked, EntryWalked, EdgeWalked}
 use Rattle.path.proofs.Writes.{wrote-one, appended-none, appended-join, appended-as}
 use Rattle.path.proofs.Showing.{least-append, least-reverse}
 
 -- ---- lists
-
-pub range-more : {A : Type 0} (f : ℕ → A) (j : ℕ) → map f (range 0 (j + 1)) ≡ map f (range 0 j) ++ (f j ∷ [])
-range-more f j =
-    ap (λ n. map f (range 0 n)) (add-one j) ∙ ap (map f) (range-suc 0 j) ∙ map-append f (range 0 j) ((0 + j) ∷ [])
-    ∙ ap (λ i. map f (range 0 j) ++ (f i ∷ [])) (zero-add j)
-
-pub flat-one : {A B : Type 0} (f : A → List B) (x : A) → flatMap f (x ∷ []) ≡ f x
-unfolding flatMap
-flat-one f x = append-nil (f x)
-
-pub flat-map : {A B C : Type 0} (f : A → B) (g : B → List C) (xs : List A) → flatMap g (map f xs) ≡ flatMap (λ x. g (f x)) xs
-unfolding flatMap
-flat-map f g [] = refl
-flat-map f g (x ∷ xs) = ap (λ l. g (f x) ++ l) (flat-map f g xs)
-
-pub flat-flat : {A B C : Type 0} (f : A → List B) (g : B → List C) (xs : List A) → flatMap g (flatMap f xs) ≡ flatMap (λ x. flatMap g (f x)) xs
-unfolding flatMap
-flat-flat f g [] = refl
-flat-flat f g (x ∷ xs) = flatMap-append g (f x) (flatMap f xs) ∙ ap (λ l. flatMap g (f x) ++ l) (flat-flat f g xs)
 
 flat-reverse : {A B : Type 0} (f : A → List B) (xs : List A) → reverse (flatMap f xs) ≡ flatMap (λ x. reverse (f x)) (reverse xs)
 unfolding flatMap
@@ -82,9 +62,9 @@ module _ (b : List ℕ) (e : Edge) where
 
   passed-more : (j : ℕ) → passed b e (j + 1) ≡ passed b e j ++ (entryFrom e n j ∷ [])
   unfolding passed
-  passed-more j = range-more (entryFrom e (length (segmentOf b e .entries))) j
+  passed-more j = map-range-last (entryFrom e (length (segmentOf b e .entries))) j
 
-  module _ (u : Usable b e) where
+  module _ (u : InBook b e) where
     used-entries : passed b e (hopCount seg e) ≡ inDirection (e .construction) (usedEntries seg e)
     unfolding passed entryFrom
     used-entries = go (e .construction)
@@ -176,7 +156,7 @@ module _ (b : List ℕ) (e : Edge) where
             ∙ sym (least-append (w .units) (walkedUnits b e j) (unitsOf (hopOf (segmentOf b e) e m) ∷ [])) ∙ ap (least (w .units)) (units-more j m q);
       }
 
-  module _ (u : Usable b e) where
+  module _ (u : InBook b e) where
     least-mtus : (x : ℕ) → least x (walkedMtus b e (hopCount (segmentOf b e) e)) ≡ least x (mtusOn b e)
     unfolding walkedMtus mtusOn mtusOf
     least-mtus x =
@@ -222,7 +202,7 @@ module _ (b : List ℕ) (e : Edge) where
   unfolding idBelow foldMacs
   id-none x q = q
 
-  pub id-more : (i at x : ℕ) → Here b e i at → i < length (segmentOf b e .entries) → x ≡ idBelow (segmentOf b e) i → foldStep x (macAt b (at + 19)) ≡ idBelow (segmentOf b e) (i + 1)
+  pub id-more : (i at x : ℕ) → StandsAt b e i at → i < length (segmentOf b e .entries) → x ≡ idBelow (segmentOf b e) i → foldStep x (macAt b (at + 19)) ≡ idBelow (segmentOf b e) (i + 1)
   unfolding asEntryAt
   id-more i at x here h q =
       ap₂ foldStep q (sym (ap (λ (a : AsEntry). a .hop .mac) (here .own))) ∙ idBelow-next (segmentOf b e) i h

@@ -13,7 +13,7 @@ use Rattle.spec.specs.Octets.{octets2}
 use Rattle.spec.specs.Book.{Segment}
 use Rattle.spec.specs.Edges.{entryOf, peerOf}
 use Rattle.path.specs.declared.entry.Walk.{Walk}
-use Rattle.path.specs.Places.{isLeft, passed, Appended}
+use Rattle.path.specs.Places.{isInnerShortcut, passed, Appended}
 use Rattle.spec.specs.Assembly.{least, unitsOf, mtusAt, isPeerEdge, isPeerHop, interfaceIf, interfacesAt, inDirection, hopOf, segmentOf, infoOn, hopsOn, interfacesOn, mtusOn}
 use Rattle.spec.specs.Records.{bit, infoOctets, hopOctets, asOctets, interfaceAsOctets, interfaceIdOctets}
 
@@ -27,12 +27,12 @@ pub data Part : Type 0 where
 unfoldable pub linkMtus : Segment → Edge → ℕ → List ℕ
 linkMtus seg e m =
     if isPeerHop e m then peerOf seg m (e .peer - 1) .mtu ∷ []
-    else if eqb (entryOf seg m .own .«ingress_mtu») 0 || isLeft e m then []
+    else if eqb (entryOf seg m .own .«ingress_mtu») 0 || isInnerShortcut e m then []
     else entryOf seg m .own .«ingress_mtu» ∷ []
 
 -- where the path leaves the segment with no peer, no ingress is shown
 unfoldable pub ingressShown : Edge → ℕ → ℕ → ℕ
-ingressShown e m ingress = if eqb (e .peer) 0 && isLeft e m then 0 else ingress
+ingressShown e m ingress = if eqb (e .peer) 0 && isInnerShortcut e m then 0 else ingress
 
 -- an interface is shown where its id is not 0
 unfoldable pub shownAs : IsdAsn → ℕ → List PathInterface

@@ -27,13 +27,12 @@ use Rattle.spec.specs.Order.{solutions}
 use Rattle.spec.specs.Records.{solutionOctets, slots}
 use Rattle.spec.specs.Answers.{Listed, refusedList, listingOf, listingOn, listing, assembly}
 use Rattle.spec.specs.Printed.{item, newline, solutionsLines, isPath, assembles, refusedLine, printedOn, printed}
-use Rattle.spec.proofs.Lists.{map-same}
+use Rattle.spec.proofs.Lists.{map-same, flat-map}
 use Rattle.spec.proofs.Membership.{map-mem}
 use Rattle.spec.proofs.ChainLaws.{allowed-length}
 use Rattle.spec.proofs.OnceLaws.{solutions-sound}
 use Rattle.spec.proofs.ByteLaws.{read-all}
 use Rattle.spec.proofs.LengthLaws.{solution-length, slots-fit}
-use Rattle.spec.proofs.ReadBack.{flat-map}
 use Rattle.spec.proofs.PrintedLaws.{printed-short, printed-refused, printed-count}
 use Rattle.order.specs.Records.{recordFrom, recordAt}
 use Rattle.printed.specs.Pieces.{solutionText, slotText, slotHasPath, pathsTo, listed, countsLine, firstBy, firstLine, countOf, pieces}

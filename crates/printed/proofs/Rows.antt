@@ -1,12 +1,10 @@
 -- Lines one after the other.
 -- Assumes nothing.
 use Prim.Native.Nat.{ℕ, _+_}
-use native.Mathlib.Nat.{zero-add}
-use native.Mathlib.Numerals.{add-one}
-use mathlib.Core.Path.{_≡_, sym, ap, _∙_}
-use mathlib.Core.List.{List, [], _∷_, _++_, flatMap, append-nil}
+use mathlib.Core.Path.{_≡_, sym}
+use mathlib.Core.List.{List, _++_, flatMap}
 use Rattle.spec.specs.Basics.{range}
-use Rattle.spec.proofs.Lists.{range-suc, flatMap-append}
+use Rattle.spec.proofs.Lists.{flat-range-last}
 use Rattle.path.specs.Places.{Wrote}
 use Rattle.path.proofs.Writes.{wrote-none, wrote-join, wrote-as}
 use Rattle.printed.specs.Lines.{fieldsLine, linesTo}
@@ -17,13 +15,8 @@ module _ (line : ℕ → List ℕ) where
   lines-none d at = wrote-none d at
 
   one-more : (k : ℕ) → linesTo line k ++ line k ≡ linesTo line (k + 1)
-  unfolding linesTo flatMap
-  one-more k =
-      sym (
-      ap (λ n. flatMap line (range 0 n)) (add-one k) ∙ ap (flatMap line) (range-suc 0 k)
-      ∙ flatMap-append line (range 0 k) ((0 + k) ∷ [])
-      ∙ ap (λ l. flatMap line (range 0 k) ++ l) (append-nil (line (0 + k)) ∙ ap line (zero-add k))
-      )
+  unfolding linesTo
+  one-more k = sym (flat-range-last line k)
 
   pub lines-more : (k : ℕ) {d : List ℕ} {at : ℕ} {d′ : List ℕ} {r : ℕ} {d″ : List ℕ} {s : ℕ}
       → Wrote d at (linesTo line k) d′ r → Wrote d′ r (line k) d″ s → Wrote d at (linesTo line (k + 1)) d″ s

@@ -26,13 +26,14 @@ use Rattle.spec.specs.Records.{solutionOctets, pathHead, pathOctets, pathHeadIn
 use Rattle.spec.specs.Router.{recordInfo, infosIn}
 use Rattle.spec.specs.Answers.{Assembled, refusedPath, leftBy, pathAnswer, assembly}
 use Rattle.spec.specs.Printed.{ascii, decimal, item, newline, infoLine, interfaceLine, pathLines, linesBy, outcomeLines, solutionLines}
+use Rattle.spec.proofs.Lists.{flat-map}
 use Rattle.spec.proofs.Membership.{not-both}
 use Rattle.spec.proofs.ChainLaws.{chains-sound, chains-complete}
 use Rattle.spec.proofs.AnswerLaws.{sameList-eq, sameList-refl, record-chain, assembly-chain, assembly-stranger, assembly-refused}
 use Rattle.spec.proofs.ByteLaws.{cost-back}
 use Rattle.spec.proofs.BookLaws.{accepted}
 use Rattle.spec.proofs.Bounds.{chain-bounds}
-use Rattle.spec.proofs.ReadBack.{PathRead, path-read, flat-map}
+use Rattle.spec.proofs.ReadBack.{PathRead, path-read}
 use Rattle.path.specs.Places.{Wrote}
 use Rattle.path.proofs.Writes.{wrote-none, wrote-join, wrote-as}
 use Rattle.printed.specs.Lines.{fieldsLine, infoText, interfaceText, linesTo, pathText}
@@ -145,7 +146,7 @@ module _ (b : List ℕ) (bytes : Bytes b) (src dst : IsdAsn) (number : ℕ) wher
             ≡ textBy (by l e) (leftBy (by l e) pathSize (combinedPath b c)) (solutionOctets c) number
         go true e = ap (λ l. l ++ (ascii " loop" ++ newline)) (sym start-text)
         go false true = ap (λ l. l ++ (ascii " bare" ++ newline)) (sym start-text)
-        go false false = ap₂ (λ (x : List ℕ) y. x ++ y) (sym start-text) (sym (path-text b c pathSize (path-read b bytes src dst c h pathSize)))
+        go false false = ap₂ (λ (x : List ℕ) y. x ++ y) (sym start-text) (sym (path-text b c pathSize (path-read b bytes c pathSize)))
 
   abbrev answer : List ℕ → Assembled
   answer given = assembly b src dst given pathSize
