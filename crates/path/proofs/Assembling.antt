@@ -30,8 +30,8 @@ use Rattle.spec.proofs.Bounds.{flat-most, flat-exact, interfaces-most}
 use Rattle.spec.proofs.ReadBack.{as-back, as-length, ases-flat, good-interfaces}
 use Rattle.segment.proofs.Fitting.{map-range-at}
 use Rattle.output.specs.Write.{written, zeroed}
-use Rattle.output.proofs.Writing.{written-pair, written-next, zeroed-rest, zeroed-all}
-use Rattle.path.specs.Thrice.{numberAt, numbersIn}
+use Rattle.output.proofs.Writing.{written-next, zeroed-rest, zeroed-all}
+use Rattle.path.specs.Thrice.{numberAt, numbersIn, someThrice}
 use Rattle.path.specs.declared.record.Ends.{Ends}
 use Rattle.path.specs.Edges.{InBook, EdgesInBook}
 use Rattle.path.specs.Places.{Wrote, Appended}
@@ -110,6 +110,9 @@ module _ (b : List ℕ) (bytes : Bytes b) where
 abbrev localOf : PathInterface → IsdAsn
 localOf i = i .local
 
+abbrev number : IsdAsn → ℕ
+number a = a .0
+
 module _ (b : List ℕ) (bytes : Bytes b) (accepted : AcceptedBook b) (c : List Edge) (u : EdgesInBook b c) (a : List ℕ) (ends : Ends) (f : EndsOf b c a ends) where
   abbrev p : CombinedPath
   p = combinedPath b c
@@ -157,12 +160,9 @@ module _ (b : List ℕ) (bytes : Bytes b) (accepted : AcceptedBook b) (c : List 
   loop-read : someThrice (numbersIn a 0 (ends .ases / 8)) ≡ isLoop (p .interfaces)
   loop-read = ap someThrice (ap (numbersIn a 0) (interfaces-count .0) ∙ numbers) ∙ sym (loop-thrice (p .interfaces))
     where
-      number : IsdAsn → ℕ
-      number x = x .0
-
       numbers : numbersIn a 0 (length (p .interfaces)) ≡ map numberOf (p .interfaces)
       numbers =
-          unfold numbersIn numberAt isdAsnAt number in
+          unfold numbersIn numberAt isdAsnAt in
           (sym (map-map number (λ k. isdAsnAt a (0 + 8 * k)) (range 0 (length (p .interfaces)))) ∙ ap (map number) ases-read ∙ map-map number localOf (p .interfaces))
 
   -- ---- the head
@@ -335,26 +335,3 @@ module _ (b : List ℕ) (bytes : Bytes b) (accepted : AcceptedBook b) (c : List 
           appended-join (appended-join first second)
           (appended-some d₂ (ends .hops + ends .ases) (flatMap (edgeBytes b Ids) c) d₃ (q₃ ∙ ap (written d₂ (ends .hops + ends .ases)) (g .ids))
           (omega (arith, second .size, first .size, f .ids-end, fits)) (ends .ids) (sym (f .ids-end)))
-
--- ---- the bytes before the infos
-
-pub counts-written : (d : List ℕ) (i h n : ℕ)
-    → written (written (written (written d 0 (i ∷ [])) 1 (h ∷ [])) 2 (n ∷ [])) 3 (0 ∷ []) ≡ written d 0 (i ∷ h ∷ n ∷ 0 ∷ [])
-counts-written d i h n =
-    ap (λ l. written (written l 2 (n ∷ [])) 3 (0 ∷ [])) (written-pair d 0 1 (i ∷ []) (h ∷ []) refl)
-    ∙ ap (λ l. written l 3 (0 ∷ [])) (written-pair d 0 2 (i ∷ h ∷ []) (n ∷ []) refl)
-    ∙ written-pair d 0 3 (i ∷ h ∷ n ∷ []) (0 ∷ []) refl
-
-pub ends-written : (d : List ℕ) (m e f l : ℕ)
-    → written (written (written (written d 4 (octets2 m)) 6 (octets4 e)) 10 (octets8 f)) 18 (octets8 l) ≡ written d 4 (octets2 m ++ octets4 e ++ octets8 f ++ octets8 l)
-ends-written d m e f l =
-    ap (λ x. written (written x 10 (octets8 f)) 18 (octets8 l)) (written-pair d 4 2 (octets2 m) (octets4 e) (unfold octets2 in refl))
-    ∙ ap (λ x. written x 18 (octets8 l)) (written-pair d 4 6 (octets2 m ++ octets4 e) (octets8 f) (unfold octets4 octets2 in refl))
-    ∙ written-pair d 4 14 (octets2 m ++ octets4 e ++ octets8 f) (octets8 l) (unfold octets8 octets4 octets2 in refl)
-
-pub head-written : (d : List ℕ) (h : PathHead)
-    → written (written d 0 (h .infos ∷ h .hops ∷ h .interfaces ∷ 0 ∷ [])) 4 (octets2 (h .mtu) ++ octets4 (h .expiry) ++ octets8 (h .first .0) ++ octets8 (h .last .0))
-    ≡ written d 0 (pathHeadOctets h)
-unfolding pathHeadOctets asOctets octets8 octets4 octets2
-head-written d h =
-    written-pair d 0 4 (h .infos ∷ h .hops ∷ h .interfaces ∷ 0 ∷ []) (octets2 (h .mtu) ++ octets4 (h .expiry) ++ octets8 (h .first .0) ++ octets8 (h .last .0)) refl

@@ -8,10 +8,10 @@ use mathlib.Core.List.{List, [], _∷_, _++_, map, flatMap, List·Memᴰ as Mem}
 use lib.ListN.{length, length-map}
 use Rattle.spec.specs.declared.Edge.{Edge}
 use Rattle.spec.specs.declared.SolutionEdge.{SolutionEdge}
-use Rattle.spec.specs.Limits.{maxEdges, edgeSize, maxMtu, maxTime, pathHeadSize, infoSize}
+use Rattle.spec.specs.Limits.{maxEdges, solutionHeadSize, edgeSize, maxMtu, maxTime, pathHeadSize, infoSize}
 use Rattle.spec.specs.Basics.{range}
 use Rattle.spec.specs.Assembly.{least, mtusOn, expiryOn}
-use Rattle.spec.specs.Records.{edgeOffset, recordEdge}
+use Rattle.spec.specs.Records.{recordEdge}
 use Rattle.spec.proofs.Lists.{map-append, map-range-last, flatMap-append, flat-one, length-range}
 use Rattle.spec.proofs.Membership.{mem-map}
 use Rattle.spec.proofs.BookLaws.{mem-range}
@@ -44,8 +44,7 @@ module _ (given : List ℕ) where
     pub few-edges : n ≤ maxEdges
     few-edges = omega (arith, u .edges .few, edges-length n)
 
-    pub edge-fits : (x : ℕ) → x < n → edgeOffset x + edgeSize ≤ length given
-    unfolding edgeOffset
+    pub edge-fits : (x : ℕ) → x < n → solutionHeadSize + edgeSize * x + edgeSize ≤ length given
     edge-fits x h = omega (arith, few-edges, u .room)
 
     pub edge-in-book : (x : ℕ) → x < n → (e : SolutionEdge) → e ≡ recordEdge given x → InBook b (edgeBy e)

@@ -3,7 +3,7 @@
 use Prim.Native.Nat.{ℕ, _+_, _-_, _%_, _^_, _≤_, min}
 use native.Mathlib.Omega.{arith}
 use mathlib.Core.Path.{_≡_, refl, sym, ap, ap₂, _∙_}
-use mathlib.Core.Bool.{Bool, true, false, _&&_, _||_, not}
+use mathlib.Core.Bool.{Bool, true, false, _&&_, _||_, not, and-true, and-false}
 use mathlib.Core.List.{List, [], _∷_, _++_, flatMap, reverse, reverse-append, reverse-cons, append-nil}
 use lib.ListN.{length, take, drop}
 use lib.Dec.{eqb, ltb}
@@ -27,14 +27,6 @@ use Rattle.path.specs.Parts.{Hops, Ases, Ids, linkMtus, ingressShown, sh
 use Rattle.path.proofs.Copies.{link-copied}
 use Rattle.path.proofs.Standing.{link-hop, own-hop}
 use Rattle.path.proofs.Writes.{wrote-one, appended-as, appended-join, appended-over, appended-some}
-
-and-true : (t : Bool) → (t && true) ≡ t
-and-true true = refl
-and-true false = refl
-
-and-false : (t : Bool) → (t && false) ≡ false
-and-false true = refl
-and-false false = refl
 
 positive : (n : ℕ) → ltb 0 n ≡ not (eqb n 0)
 positive n = go (eqb n 0) refl

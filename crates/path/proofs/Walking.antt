@@ -1,20 +1,21 @@
 -- The walks over an edge's hops: their turns, and what they end in.
 -- Assumes nothing.
-use Prim.Native.Nat.{ℕ, _+_, _-_, _/_, _%_, _^_, _≤_, _<_, min}
+use Prim.Native.Nat.{ℕ, _+_, _-_, _≤_, _<_, min}
 use native.Mathlib.Nat.{add-zero}
 use native.Mathlib.Omega.{arith}
 use mathlib.Core.Path.{_≡_, refl, sym, ap, ap₂, _∙_}
 use mathlib.Core.Bool.{Bool, true, false, _&&_}
 use mathlib.Core.List.{List, [], _∷_, _++_, map, flatMap, reverse, reverse-cons, reverse-append, reverse-reverse}
 use lib.ListN.{length, take, drop}
-use lib.Dec.{eqb}
+use lib.Seq.{take-all}
+use lib.Dec.{eqb, ltb}
 use borrow.Author.Tests.{eqb-true, eq-eqb}
 use Rattle.spec.specs.declared.HopField.{HopField}
+use Rattle.spec.specs.declared.InfoField.{InfoField}
 use Rattle.spec.specs.declared.AsEntry.{AsEntry}
 use Rattle.spec.specs.declared.Edge.{Edge}
 use Rattle.spec.specs.Limits.{infoSize, maxTime}
 use Rattle.spec.specs.Basics.{if_then_else_, range}
-use Rattle.spec.specs.Octets.{octets2, octets4}
 use Rattle.spec.specs.Book.{Segment, macAt, asEntryAt}
 use Rattle.spec.specs.Assembly.{least, unitsOf, life, mtusAt, hopOf, hopCount, usedEntries, interfacesAt, inDirection, hopsOf, interfacesOf, mtusOf, infoOf, expiryOf, segmentOf, hopsOn, interfacesOn, mtusOn, infoOn, expiryOn, isPeerHop, isPeerEdge, atShortcut, foldStep, foldMacs, idBelow, stopAt}
 use Rattle.spec.specs.Records.{hopOctets, infoOctets, interfaceAsOctets, interfaceIdOctets}
@@ -26,7 +27,7 @@ use Rattle.output.specs.Write.{written}
 use Rattle.path.specs.Edges.{InBook}
 use Rattle.path.specs.declared.entry.Walk.{Walk}
 use Rattle.path.specs.Places.{StandsAt, Wrote, entryFrom, passed}
-use Rattle.path.specs.Parts.{Part, Hops, Ases, Ids, infoBytes, interfacesHere, entryBytes, edgeBytes, walked, walkedUnits, walkedMtus, stopFrom, flagsOf, Walked, EntryWalked, EdgeWalked}
+use Rattle.path.specs.Parts.{Part, Hops, Ases, Ids, infoBytes, interfacesHere, entryBytes, edgeBytes, walked, walkedUnits, walkedMtus, stopFrom, Walked, EntryWalked, EdgeWalked}
 use Rattle.path.proofs.Writes.{wrote-one, appended-none, appended-join, appended-as}
 use Rattle.path.proofs.Showing.{least-append, least-reverse}
 
@@ -248,34 +249,16 @@ stop-all b e n k s i p q r h = h ∙ r ∙ ap (stopFrom e) q ∙ stop-is b e n p
 
 -- ---- an info
 
-two-bytes : (i : ℕ) → i < 2 ^ 16 → i / 256 ∷ i % 256 ∷ [] ≡ octets2 i
-unfolding octets2
-two-bytes i h =
-    let e : i / 256 ≡ i / 2 ^ 8 % 2 ^ 8 = omega arith in
-    ap (λ x. x ∷ i % 256 ∷ []) e
+pub info-is : (b : List ℕ) (e : Edge) (h i t : ℕ) → h ≡ hopCount (segmentOf b e) e → i ≡ idBelow (segmentOf b e) (stopAt (segmentOf b e) e) → t ≡ segmentOf b e .timestamp
+    → record { construction = e .construction; peering = ltb 0 (e .peer); hops = h; id = i; timestamp = t } ≡ infoOn b e
+unfolding infoOn infoOf isPeerEdge
+info-is b e h i t p q r = λ k. record { construction = e .construction; peering = ltb 0 (e .peer); hops = p k; id = q k; timestamp = r k }
 
-four-bytes : (t : ℕ) → t < 2 ^ 32 → t / 16777216 ∷ t / 65536 % 256 ∷ t / 256 % 256 ∷ t % 256 ∷ [] ≡ octets4 t
-unfolding octets4 octets2
-four-bytes t h =
-    let p : t / 16777216 ≡ t / 2 ^ 16 / 2 ^ 8 % 2 ^ 8 = omega arith in
-    let q : t / 256 % 256 ≡ t % 2 ^ 16 / 2 ^ 8 % 2 ^ 8 = omega arith in
-    let r : t % 256 ≡ t % 2 ^ 16 % 2 ^ 8 = omega arith in
-    ap₂ (λ x y. x ∷ t / 65536 % 256 ∷ y) p (ap₂ (λ x y. x ∷ y ∷ []) q r)
-
--- the fields of an info, copied from a local one
-pub fields-copied : (d : List ℕ) (at f h i t : ℕ) (d′ : List ℕ) → i < 2 ^ 16 → t < 2 ^ 32
-    → d′ ≡ written d at (take infoSize (drop 0 (f ∷ h ∷ i / 256 ∷ i % 256 ∷ t / 16777216 ∷ t / 65536 % 256 ∷ t / 256 % 256 ∷ t % 256 ∷ [])))
-    → d′ ≡ written d at ((f ∷ h ∷ []) ++ octets2 i ++ octets4 t)
-fields-copied d at f h i t d′ p q e = e ∙ ap₂ (λ x y. written d at ((f ∷ h ∷ []) ++ x ++ y)) (two-bytes i p) (four-bytes t q)
-
-pub info-wrote : (b : List ℕ) (e : Edge) (d : List ℕ) (at : ℕ) (d′ : List ℕ) (f h i t : ℕ)
-    → d′ ≡ written d at ((f ∷ h ∷ []) ++ octets2 i ++ octets4 t)
-    → f ≡ flagsOf e → h ≡ hopCount (segmentOf b e) e → i ≡ idBelow (segmentOf b e) (stopAt (segmentOf b e) e) → t ≡ segmentOf b e .timestamp
-    → Wrote d at (infoBytes b e) d′ (at + infoSize)
-unfolding infoBytes infoOn infoOf infoOctets flagsOf
-info-wrote b e d at d′ f h i t q qf qh qi qt =
+pub info-wrote : (b : List ℕ) (e : Edge) (i : InfoField) (r d : List ℕ) (at : ℕ) (d′ : List ℕ)
+    → i ≡ infoOn b e → r ≡ infoOctets i → d′ ≡ written d at (take infoSize (drop 0 r)) → Wrote d at (infoBytes b e) d′ (at + infoSize)
+unfolding infoBytes
+info-wrote b e i r d at d′ p q w =
     wrote-one d at (infoOctets (infoOn b e)) d′ infoSize (at + infoSize)
-    (q
-    ∙ ap₂ (λ x y. written d at ((x ∷ y ∷ []) ++ octets2 i ++ octets4 t)) qf qh
-    ∙ ap₂ (λ x y. written d at ((flagsOf e ∷ hopCount (segmentOf b e) e ∷ []) ++ octets2 x ++ octets4 y)) qi qt)
+    (w ∙ ap (λ l. written d at (take infoSize l)) (q ∙ ap infoOctets p)
+    ∙ ap (written d at) (take-all infoSize (infoOctets (infoOn b e)) (omega (arith, info-length (infoOn b e)))))
     (info-length (infoOn b e)) refl

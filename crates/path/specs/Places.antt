@@ -27,7 +27,7 @@ entryAses = 2 * asSize
 abbrev pub entryIds : ℕ
 entryIds = 2 * idSize
 
--- entry m is the shortcut, above the segment's first entry: there the path leaves the segment, or comes to it
+-- entry m is the shortcut, above the segment's first entry: the path leaves the segment there, or joins it
 unfoldable pub isInnerShortcut : Edge → ℕ → Bool
 isInnerShortcut e m = atShortcut e m && ltb 0 (e .shortcut)
 

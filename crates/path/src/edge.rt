@@ -1,19 +1,16 @@
 // What a path holds of one edge: a walk over its hops in the path's order.
 ghost use mathlib.Core.Path.{_≡_};
-ghost use mathlib.Core.List.{[], _∷_, _++_, map};
+ghost use mathlib.Core.List.{map};
 ghost use Prim.Native.Nat.{_+_, _*_, _≤_, _<_};
 ghost use lib.ListN.{length};
 ghost use Rattle.spec.specs.Limits.{maxEntries, infoSize, hopSize};
-ghost use Rattle.spec.specs.Octets.{octets2, octets4};
 ghost use Rattle.spec.specs.declared.Verdict.the-variants.{Accepted};
 ghost use Rattle.spec.specs.Book.{verdict};
-ghost use Rattle.spec.specs.Assembly.{least, unitsOf, hopsOn, expiryOn, idBelow, stopAt, segmentOf};
-ghost use Rattle.spec.specs.Records.{bit};
-ghost use Rattle.output.specs.Write.{written};
+ghost use Rattle.spec.specs.Assembly.{least, unitsOf, infoOn, hopsOn, expiryOn, idBelow, stopAt, segmentOf};
 ghost use Rattle.graph.specs.Ready.{Ready};
 ghost use Rattle.path.specs.Edges.{edgeBy, InBook};
 ghost use Rattle.path.specs.Places.{Wrote, entryAses, entryIds};
-ghost use Rattle.path.specs.Parts.{infoBytes, stopFrom, flagsOf, EdgeWalked};
+ghost use Rattle.path.specs.Parts.{infoBytes, stopFrom, EdgeWalked};
 use crate::entry;
 use crate::entry::Walk;
 use crate::places;
@@ -111,34 +108,22 @@ fn segment_id(book: &[u8], table: &[u16; PLACES], e: SolutionEdge) -> u16
     id
 }
 
-fn bit(t: bool) -> u8
-    ensures { λ r. ⌜ (r ≡ bit t) × (r ≤ 1) ⌝ }
+fn info(book: &[u8], table: &[u16; PLACES], e: SolutionEdge) -> InfoField
+    requires { ⌜ Ready (now book) (now table) ⌝ }
+    requires { ⌜ InBook (now book) (edgeBy e) ⌝ }
+    ensures { λ r. ⌜ r ≡ infoOn (now (book .entry)) (edgeBy e) ⌝ }
 {
-    if t { 1 } else { 0 }
-}
-
-fn flags(e: SolutionEdge) -> u8
-    ensures { λ r. ⌜ r ≡ flagsOf (edgeBy e) ⌝ }
-{
-    bit(e.construction) + 2 * bit(0 < e.peer)
-}
-
-// The fields are put together in a local info, which the compiler moves as a whole.
-fn put_fields(out: &mut [u8], at: usize, flags: u8, hops: u8, id: u16, timestamp: u32)
-    requires { ⌜ at + infoSize ≤ length (now out) ⌝ }
-    ensures { λ _. ⌜ now (out .exit) ≡ written (now (out .entry)) at ((flags ∷ hops ∷ []) ++ octets2 id ++ octets4 timestamp) ⌝ }
-{
-    let r = [
-        flags,
-        hops,
-        (id / 256) as u8,
-        (id % 256) as u8,
-        (timestamp / 16777216) as u8,
-        (timestamp / 65536 % 256) as u8,
-        (timestamp / 256 % 256) as u8,
-        (timestamp % 256) as u8,
-    ];
-    within::copy(&r, 0, out, at, InfoField::SIZE);
+    let n = places::entry_count(book, e);
+    let hops = n - (e.shortcut as usize);
+    let id = segment_id(book, table, e);
+    let timestamp = places::timestamp(book, e);
+    InfoField {
+        construction: e.construction,
+        peering: 0 < e.peer,
+        hops: hops as u8,
+        id: id,
+        timestamp: timestamp,
+    }
 }
 
 pub(crate) fn put_info(
@@ -153,10 +138,7 @@ pub(crate) fn put_info(
     requires { ⌜ at + infoSize ≤ length (now out) ⌝ }
     ensures { λ r. ⌜ Wrote (now (out .entry)) at (infoBytes (now (book .entry)) (edgeBy e)) (now (out .exit)) r × (r ≡ at + infoSize) ⌝ }
 {
-    let n = places::entry_count(book, e);
-    let hops = n - (e.shortcut as usize);
-    let id = segment_id(book, table, e);
-    let timestamp = places::timestamp(book, e);
-    put_fields(out, at, flags(e), hops as u8, id, timestamp);
+    let r = records::info_octets(info(book, table, e));
+    within::copy(&r, 0, out, at, InfoField::SIZE);
     at + InfoField::SIZE
 }

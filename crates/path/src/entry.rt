@@ -94,7 +94,7 @@ fn put_hop(book: &[u8], e: SolutionEdge, m: usize, at: usize, out: &mut [u8], to
 
 // ---- interfaces
 
-// Where a segment is left between two hops, at a shortcut above its first entry, no ingress is shown.
+// At a shortcut above the segment's first entry, without a peer, no ingress is shown.
 fn shown_ingress(e: SolutionEdge, m: usize, ingress: u16) -> u16
     ensures { λ r. ⌜ r ≡ ingressShown (edgeBy e) m ingress ⌝ }
 {
@@ -126,8 +126,8 @@ fn shown(book: &[u8], e: SolutionEdge, m: usize, at: usize) -> ShownIds
     }
 }
 
-// The AS at an offset of the book. It is written also where no id is shown, and what comes next then goes over it: no branch
-// is to be foretold.
+// The AS at an offset of the book. Where no id is shown it is written all the same, and the next one goes over it: the
+// write needs no branch.
 fn put_as(book: &[u8], at: usize, ases: &mut [u8], to: usize, id: u16) -> usize
     requires { ⌜ (at + asSize ≤ length (now book)) × (to + asSize ≤ length (now ases)) ⌝ }
     ensures { λ r. ⌜ Appended (now (ases .entry)) to (asIf (isdAsnAt (now (book .entry)) at) id) (now (ases .exit)) r × (r ≤ to + asSize) ⌝ }
@@ -165,8 +165,8 @@ fn less(x: u16, y: u16) -> u16
     x
 }
 
-// The most that an MTU can be, where none is said.
-fn or_most(x: u16) -> u16
+// An MTU of 0 says none: then the most that one can be.
+fn or_max(x: u16) -> u16
     ensures { λ r. ⌜ (x ≡ 0 → r ≡ maxMtu) × ((x ≡ 0 → ⊥) → r ≡ x) ⌝ }
 {
     if x == 0 {
@@ -187,7 +187,7 @@ fn link_mtu(book: &[u8], e: SolutionEdge, m: usize, at: usize) -> u16
     if places::is_inner_shortcut(e, m) {
         return MAX_MTU;
     }
-    or_most(within::read16(book, at + AsEntry::INGRESS_MTU))
+    or_max(within::read16(book, at + AsEntry::INGRESS_MTU))
 }
 
 // The least of x and the entry's MTUs.

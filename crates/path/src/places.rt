@@ -95,7 +95,7 @@ pub(crate) fn is_peer_hop(e: SolutionEdge, m: usize) -> bool
     false
 }
 
-// Entry m is the shortcut, above the segment's first entry: there the path leaves the segment, or comes to it.
+// Entry m is the shortcut, above the segment's first entry: the path leaves the segment there, or joins it.
 pub(crate) fn is_inner_shortcut(e: SolutionEdge, m: usize) -> bool
     ensures { λ r. ⌜ r ≡ isInnerShortcut (edgeBy e) m ⌝ }
 {

@@ -1,16 +1,14 @@
 // The record of a whole path: the edges of a solution's record one after the other.
 ghost use mathlib.Core.Path.{_≡_};
-ghost use mathlib.Core.List.{[], _∷_, _++_, flatMap};
+ghost use mathlib.Core.List.{flatMap};
 ghost use Prim.Native.Nat.{_+_, _*_, _≤_, _<_, min};
 ghost use lib.ListN.{length};
 ghost use Rattle.spec.specs.declared.Verdict.the-variants.{Accepted};
-ghost use Rattle.spec.specs.Limits.{maxEdges, maxEntries, edgeSize, infoSize, pathSize};
+ghost use Rattle.spec.specs.Limits.{maxEdges, maxEntries, solutionHeadSize, edgeSize, infoSize, pathSize};
 ghost use Rattle.spec.specs.Basics.{padded};
-ghost use Rattle.spec.specs.Octets.{octets2, octets4, octets8};
 ghost use Rattle.spec.specs.Book.{verdict};
 ghost use Rattle.spec.specs.Assembly.{combinedPath};
-ghost use Rattle.spec.specs.Records.{edgeOffset, recordEdge, pathHead, pathHeadOctets, pathOctets};
-ghost use Rattle.output.specs.Write.{written};
+ghost use Rattle.spec.specs.Records.{recordEdge, pathHead, pathOctets};
 ghost use Rattle.graph.specs.Ready.{Ready};
 ghost use Rattle.path.specs.Edges.{edgesIn, RecordInBook};
 ghost use Rattle.path.specs.Places.{Wrote, entryAses, entryIds};
@@ -28,9 +26,9 @@ use spec::PathInterface;
 use spec::Solution;
 use spec::SolutionEdge;
 
-// Edge x of a record.
+// Edge x of a record, read with no test of its end.
 fn edge_in(given: &[u8], x: usize) -> SolutionEdge
-    requires { ⌜ edgeOffset x + edgeSize ≤ length (now given) ⌝ }
+    requires { ⌜ solutionHeadSize + edgeSize * x + edgeSize ≤ length (now given) ⌝ }
     ensures { λ r. ⌜ r ≡ recordEdge (now (given .entry)) x ⌝ }
 {
     let at = Solution::HEAD + SolutionEdge::SIZE * x;
@@ -143,44 +141,15 @@ fn path_head(book: &[u8], given: &[u8], count: usize, ases: &[u8], ends: Ends) -
 {
     let first = segment::isd_asn(ases, 0);
     let last = segment::isd_asn(ases, ends.ases - PathInterface::AS);
-    let hops = (ends.hops - Path::HEAD - InfoField::SIZE * count) / HopField::SIZE;
-    let interfaces = ends.ases / PathInterface::AS;
     Path::new(
         count as u8,
-        hops as u8,
-        interfaces as u8,
+        ((ends.hops - Path::HEAD - InfoField::SIZE * count) / HopField::SIZE) as u8,
+        (ends.ases / PathInterface::AS) as u8,
         ends.mtu,
         ends.expiry,
         first,
         last,
     )
-}
-
-fn put_counts(out: &mut [u8], infos: u8, hops: u8, interfaces: u8)
-    ensures { λ _. ⌜ now (out .exit) ≡ written (now (out .entry)) 0 (infos ∷ hops ∷ interfaces ∷ 0 ∷ []) ⌝ }
-{
-    output::put_byte(out, 0, infos);
-    output::put_byte(out, 1, hops);
-    output::put_byte(out, 2, interfaces);
-    output::put_byte(out, 3, 0);
-}
-
-fn put_ends(out: &mut [u8], mtu: u16, expiry: u32, first: u64, last: u64)
-    ensures { λ _. ⌜ now (out .exit) ≡ written (now (out .entry)) 4 (octets2 mtu ++ octets4 expiry ++ octets8 first ++ octets8 last) ⌝ }
-{
-    output::put16(out, 4, mtu);
-    output::put32(out, 6, expiry);
-    output::put64(out, 10, first);
-    output::put64(out, 18, last);
-}
-
-fn put_head(out: &mut [u8], head: Path)
-    ensures { λ _. ⌜ now (out .exit) ≡ written (now (out .entry)) 0 (pathHeadOctets head) ⌝ }
-{
-    put_counts(out, head.infos, head.hops, head.interfaces);
-    let first = head.first;
-    let last = head.last;
-    put_ends(out, head.mtu, head.expiry, first.0, last.0);
 }
 
 // The record of a path with interfaces, whose hops stand.
@@ -206,6 +175,6 @@ pub(crate) fn put_path(
     let next = ends.hops + ends.ases;
     within::copy(ases, 0, out, ends.hops, ends.ases);
     within::copy(ids, 0, out, next, ends.ids);
-    put_head(out, head);
+    records::put_head(out, head);
     output::zero(out, next + ends.ids);
 }

@@ -25,7 +25,7 @@ returns-2 c = link-shortcut _ _ _ (sym (c .before .before .before .is-peer-hop .
 returns-3 : tie.Need-returns-3
 returns-3 c =
     link-regular _ _ _ (sym (c .before .before .before .before .before .is-peer-hop .ensures) ∙ c .before .before .before .before .if1 .left) (sym (c .before .before .before .is-inner-shortcut .ensures) ∙ c .before .before .if2 .left) _ _
-    (c .before .read162 .ensures ∙ ingress-mtu-read _ _ _ _ (c .before .before .before .before .before .before .before .pre .0)) (omega arith) (c .or-most .ensures)
+    (c .before .read162 .ensures ∙ ingress-mtu-read _ _ _ _ (c .before .before .before .before .before .before .before .pre .0)) (omega arith) (c .or-max .ensures)
 
 pub link-mtu-spec : {M : Type 1} → statement M
 link-mtu-spec =
