@@ -8,7 +8,7 @@ use Rattle.printed.proofs.lines.put_path.Tie as tie
 
 returns : tie.Need-returns
 returns c =
-    wrote-as (path-as _ _ (c .before .before .before .before .before .before .before .before .before .before .before .path-head .ensures))
+    wrote-as (path-as _ _ (c .before .before .before .before .before .before .before .before .before .before .before .before .path-head .ensures))
     (wrote-join (wrote-join (c .before .before .before .before .before .before .before .before .before .before .fields-line .ensures .0) (c .before .before .before .before .before .before .put-infos .ensures .0)) (c .before .before .put-interfaces .ensures .0))
 
 pub put-path-spec : {M : Type 1} → statement M
