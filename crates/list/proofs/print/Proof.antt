@@ -1,14 +1,10 @@
 -- `print` meets its contract.
 -- Assumes nothing.
 use native.Mathlib.Omega.{arith}
-use lib.ListN.{length-replicate}
 use Rattle.list.proofs.Fronts.{whole-long}
 use borrow.Author.Needs.{needs}
 use Rattle.list.proofs.print.Statement.{statement}
 use Rattle.list.proofs.print.Tie as tie
-
-print-first-requires : tie.Need-print-first-requires
-print-first-requires c κs = length-replicate _ _
 
 print-slots-requires : tie.Need-print-slots-requires
 print-slots-requires c κs = (c .before .before .print-first .ensures .0 .1, c .before .before .print-first .ensures .0 .0)
@@ -25,7 +21,7 @@ print-spec =
     tie.close
     (tie.spec
     (λ c. search needs)
-    print-first-requires
+    (λ c κs. search needs)
     (λ c. search needs)
     print-slots-requires
     add-result
