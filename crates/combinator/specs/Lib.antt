@@ -1,2 +1,3 @@
 pub mod Exports
+pub mod Demand1
 pub mod Demand3

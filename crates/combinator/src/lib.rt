@@ -1,33 +1,13 @@
 // The functions that the gateway's C host calls: numbers and byte slices in, a number out. Below 65,536 the
 // number is the answer itself; 65,536 + N is refusal N.
 ghost use mathlib.Core.Path.{_≡_};
-ghost use Prim.Native.Nat.{_≤_};
 ghost use lib.ListN.{length};
-ghost use Rattle.spec.specs.Answers.{refusalNumber};
 ghost use Rattle.combinator.specs.Exports.{listReturned, pathReturned};
 use spec::IsdAsn;
 use spec::ListAnswer;
 use spec::PathAnswer;
-use spec::Refusal;
 
 const REFUSALS: u32 = 65536;
-
-fn refusal_number(r: Refusal) -> u32
-    ensures { λ n. ⌜ (n ≡ refusalNumber r) × (n ≤ 10) ⌝ }
-{
-    match r {
-        Refusal::Cut => 1,
-        Refusal::Surplus => 2,
-        Refusal::Oversize => 3,
-        Refusal::Crowded => 4,
-        Refusal::Long => 5,
-        Refusal::Peers => 6,
-        Refusal::Misfit => 7,
-        Refusal::Full => 8,
-        Refusal::Small => 9,
-        Refusal::Stranger => 10,
-    }
-}
 
 // Lists every solution from `src` to `dst` of a book into `out`.
 #[no_mangle]
@@ -37,7 +17,7 @@ pub extern "C" fn combinator_list(src: u64, dst: u64, book: &[u8], out: &mut [u8
     let answer = graph::list(IsdAsn(src), IsdAsn(dst), book, out);
     match answer {
         ListAnswer::Count(n) => n as u32,
-        ListAnswer::Refused(r) => REFUSALS + refusal_number(r),
+        ListAnswer::Refused(r) => REFUSALS + r.number(),
     }
 }
 
@@ -57,6 +37,6 @@ pub extern "C" fn combinator_assemble(
         PathAnswer::Path => 0,
         PathAnswer::Loop => 1,
         PathAnswer::Bare => 2,
-        PathAnswer::Refused(r) => REFUSALS + refusal_number(r),
+        PathAnswer::Refused(r) => REFUSALS + r.number(),
     }
 }

@@ -3,22 +3,23 @@
 use mathlib.Core.Path.{_≡_, refl, sym, ap, ap₂, _∙_}
 use mathlib.Core.Bool.{Bool, true, false}
 use mathlib.Core.List.{List, [], _∷_, _++_, flatMap, append-nil, append-assoc}
-use Prim.Native.Nat.{ℕ, zero, suc, _+_, _-_, _*_, _/_, _%_, _^_, _≤_, _<_, min}
+use Prim.Native.Nat.{ℕ, zero, suc, _+_, _-_, _*_, _≤_, _<_, min}
 use native.Mathlib.Nat.{zero-add, suc-add}
 use native.Mathlib.Numerals.{add-one}
 use native.Mathlib.Omega.{arith}
-use lib.ListN.{length, getD, take, drop, length-append, length-take, length-drop}
-use lib.Seq.{take-all, take-append-le, take-at, take-add, drop-drop, drop-cons, length-take-le}
+use lib.ListN.{length, take, drop, length-append, length-take, length-drop}
+use lib.Seq.{take-all, take-append-le, take-at, length-take-le}
 use lib.Dec.{ltb}
 use borrow.Author.Tests.{ltb-true, ltb-false}
-use Rattle.spec.specs.Limits.{maxEntries}
-use Rattle.spec.specs.Octets.{Bytes, be16, be32, be64, octets2, octets4, octets8}
+use Rattle.spec.specs.Limits.{maxEntries, entrySize}
+use Rattle.spec.specs.Octets.{Bytes, be16, be64, octets2, octets4, octets8}
 use Rattle.spec.specs.Book.{Entry, segmentCount, entryCountAt, bodyOffset, entryEnd, isdAsnAt, asEntryAt, entryAt, entryOffset, entriesAt, segmentAt}
 use Rattle.spec.specs.Order.{entryInput, fingerprintInput, fingerprint}
 use Rattle.spec.proofs.Lists.{flatMap-append}
-use Rattle.spec.proofs.BookLaws.{AcceptedBook, entry-count, be16-lt, be32-lt}
+use Rattle.spec.proofs.BookLaws.{AcceptedBook, entry-count}
+use Rattle.spec.proofs.OctetLaws.{be16s-bytes, be64-bytes}
 use Rattle.output.specs.Write.{written}
-use Rattle.output.proofs.Writing.{copied, written-pair, written-within, octets2-length, octets8-length}
+use Rattle.output.proofs.Writing.{written-pair, written-within, octets2-length, octets8-length}
 use Rattle.sha256.specs.Message.{sha256}
 use Rattle.fingerprint.specs.Print.{inputSize, inputs}
 use Rattle.segment.proofs.Fitting.{offset-next}
@@ -107,58 +108,19 @@ entry-written m b place at =
     rw (written-pair m place 8 a i (octets8-length (be64 b at)))
     (written-pair m place 10 (a ++ i) e (length-append a i ∙ ap₂ (λ x y. x + y) (octets8-length (be64 b at)) (octets2-length (be16 b (at + 14)))))
 
--- a number's octets are the bytes that it was read from
 module _ (b : List ℕ) (bytes : Bytes b) where
-  part-join : (at m n : ℕ) → take m (drop at b) ++ take n (drop (at + m) b) ≡ take (m + n) (drop at b)
-  part-join at m n = rw (← drop-drop m at b) (sym (take-add m n (drop at b)))
-
-  octets2-part : (at : ℕ) → at + 2 ≤ length b → octets2 (be16 b at) ≡ take 2 (drop at b)
-  unfolding octets2 be16
-  octets2-part at h =
-      let p = bytes at in
-      let q = bytes (at + 1) in
-      let x : ℕ = getD b at 0 * 2 ^ 8 + getD b (at + 1) 0 in
-      let e : x / 2 ^ 8 % 2 ^ 8 ≡ getD b at 0 = omega arith in
-      let f : x % 2 ^ 8 ≡ getD b (at + 1) 0 = omega arith in
-      let g : suc at ≡ at + 1 = omega arith in
-      ap₂ (λ u v. u ∷ v ∷ []) e f
-      ∙ sym (ap (take 2) (drop-cons b at 0 (omega arith)) ∙ ap (λ l. getD b at 0 ∷ take 1 l) (ap (λ i. drop i b) g ∙ drop-cons b (at + 1) 0 (omega arith)))
-
-  octets4-part : (at : ℕ) → at + 4 ≤ length b → octets4 (be32 b at) ≡ take 4 (drop at b)
-  unfolding octets4 be32
-  octets4-part at h =
-      let q = be16-lt b bytes (at + 2) in
-      let x : ℕ = be16 b at * 2 ^ 16 + be16 b (at + 2) in
-      let e : x / 2 ^ 16 ≡ be16 b at = omega arith in
-      let f : x % 2 ^ 16 ≡ be16 b (at + 2) = omega arith in
-      rw (e, f, octets2-part at (omega arith), octets2-part (at + 2) (omega arith)) (part-join at 2 2)
-
-  octets8-part : (at : ℕ) → at + 8 ≤ length b → octets8 (be64 b at) ≡ take 8 (drop at b)
-  unfolding octets8 be64
-  octets8-part at h =
-      let q = be32-lt b bytes (at + 4) in
-      let x : ℕ = be32 b at * 2 ^ 32 + be32 b (at + 4) in
-      let e : x / 2 ^ 32 ≡ be32 b at = omega arith in
-      let f : x % 2 ^ 32 ≡ be32 b (at + 4) = omega arith in
-      rw (e, f, octets4-part at (omega arith), octets4-part (at + 4) (omega arith)) (part-join at 4 4)
-
-  input-parts : (at : ℕ) → at + 18 ≤ length b → entryInput (entryAt b at) ≡ take 8 (drop at b) ++ take 4 (drop (at + 14) b)
+  input-parts : (at : ℕ) → at + entrySize ≤ length b → entryInput (entryAt b at) ≡ take 8 (drop at b) ++ take 4 (drop (at + 14) b)
   unfolding entryInput entryAt asEntryAt isdAsnAt
   input-parts at h =
       let e : at + 16 ≡ at + 14 + 2 = omega arith in
-      rw (append-assoc, octets8-part at (omega arith), octets2-part (at + 14) (omega arith), octets2-part (at + 16) (omega arith), e, part-join (at + 14) 2 2)
+      rw (append-assoc, e, be64-bytes b bytes at (omega arith), be16s-bytes b bytes (at + 14) (omega arith))
 
   -- the two parts of an entry, copied one after the other
-  pub entry-copied : (m : List ℕ) (place at : ℕ) → at + 26 ≤ length b
+  pub entry-copied : (m : List ℕ) (place at : ℕ) → at + entrySize ≤ length b
       → written (written m place (take 8 (drop at b))) (place + 8) (take 4 (drop (at + 14) b)) ≡ written m place (entryInput (entryAt b at))
   entry-copied m place at h =
       written-pair m place 8 (take 8 (drop at b)) (take 4 (drop (at + 14) b)) (length-take-le 8 (drop at b) (simp length-drop (omega arith)))
-      ∙ ap (written m place) (sym (input-parts at (omega arith)))
-
--- the loop that copies has come to its end
-pub copied-end : (d : List ℕ) (at : ℕ) (s : List ℕ) (from n j : ℕ) → j ≤ n → n ≤ j → copied d at s from j ≡ written d at (take n (drop from s))
-unfolding copied
-copied-end d at s from n j h g = let e : j ≡ n = omega arith in rw e
+      ∙ ap (written m place) (sym (input-parts at h))
 
 -- the next entry is written at its place
 pub written-more : (m : List ℕ) (b : List ℕ) (start i at : ℕ) → inputSize * i + inputSize ≤ length m → at ≡ entryOffset b start i

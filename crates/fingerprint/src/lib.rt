@@ -12,10 +12,24 @@ ghost use Rattle.fingerprint.specs.Print.{inputSize, inputs};
 use spec::AsEntry;
 use spec::Limits;
 
-// The bytes of an entry that its segment's fingerprint takes in, and of a segment's.
-const INPUT: usize = 12;
+// The bytes that a segment's fingerprint takes in of an entry: its AS, and ingress and egress, which stand side by side.
+const AS: usize = 8;
 
+const ID: usize = 2;
+
+const IDS: usize = 2 * ID;
+
+const AS_AND_ID: usize = AS + ID;
+
+const INPUT: usize = AS + IDS;
+
+// Of all entries.
 const MESSAGE: usize = INPUT * Limits::ENTRIES;
+
+// Where ingress and egress stand in an entry.
+const INGRESS: u8 = AsEntry::INGRESS as u8;
+
+const EGRESS: u8 = AsEntry::EGRESS as u8;
 
 fn wide(x: u16) -> usize
     ensures { λ r. ⌜ (r ≡ x) × (r < 2 ^ 16) ⌝ }
@@ -47,8 +61,12 @@ fn put_numbers(book: &[u8], message: &mut [u8], place: usize, at: usize)
     ensures { λ r. ⌜ now (message .exit) ≡ written (now (message .entry)) place (entryInput (entryAt (now (book .entry)) at)) ⌝ }
 {
     output::put64(message, place, octets::be64(book, at));
-    output::put16(message, place + 8, octets::be16_past(book, at, 14));
-    output::put16(message, place + 10, octets::be16_past(book, at, 16));
+    output::put16(message, place + AS, octets::be16_past(book, at, INGRESS));
+    output::put16(
+        message,
+        place + AS_AND_ID,
+        octets::be16_past(book, at, EGRESS),
+    );
 }
 
 // The same. An entry that lies in the book is copied: its AS stands first, ingress and egress side by side.
@@ -57,8 +75,8 @@ fn put_entry(book: &[u8], message: &mut [u8], place: usize, at: usize)
     ensures { λ r. ⌜ now (message .exit) ≡ written (now (message .entry)) place (entryInput (entryAt (now (book .entry)) at)) ⌝ }
 {
     if at + AsEntry::SIZE <= book.len() {
-        copy(book, at, message, place, 8);
-        copy(book, at + 14, message, place + 8, 4);
+        copy(book, at, message, place, AS);
+        copy(book, at + AsEntry::INGRESS, message, place + AS, IDS);
     } else {
         put_numbers(book, message, place, at);
     }

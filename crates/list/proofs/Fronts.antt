@@ -1,11 +1,9 @@
 -- What a piece leaves at the front of a buffer that has room for it, and how long the pieces are together.
 -- Assumes nothing.
 use Prim.Native.Nat.{ℕ, _+_, _*_, _≤_, zero-le}
-use native.Mathlib.Nat.{zero-add}
-use native.Mathlib.Numerals.{add-one}
 use native.Mathlib.Omega.{arith}
 use mathlib.Core.Path.{_≡_, refl, ap, sym, _∙_}
-use mathlib.Core.List.{List, [], _∷_, _++_, flatMap}
+use mathlib.Core.List.{List, _++_, flatMap}
 use lib.ListN.{length, take, drop, length-append}
 use lib.Seq.{take-at}
 use Rattle.sha256.specs.Message.{sha256}
@@ -14,7 +12,7 @@ use Rattle.spec.specs.declared.ListAnswer.the-variants.{Count, Refused}
 use Rattle.spec.specs.Limits.{maxSlots, solutionSize}
 use Rattle.spec.specs.Basics.{range}
 use Rattle.spec.specs.Printed.{printed}
-use Rattle.spec.proofs.Lists.{range-suc, flatMap-append}
+use Rattle.spec.proofs.Lists.{flat-range-last}
 use Rattle.output.specs.Write.{written}
 use Rattle.output.proofs.Writing.{written-within}
 use Rattle.printed.specs.Pieces.{listed, countOf, firstLine, slotText, pieces}
@@ -31,14 +29,7 @@ module _ (line : ℕ → List ℕ) where
   none-long = refl
 
   pub one-longer : (k : ℕ) → length (flatMap line (range 0 (k + 1))) ≡ length (flatMap line (range 0 k)) + length (line k)
-  one-longer k =
-      ap (λ n. length (flatMap line (range 0 n))) (add-one k) ∙ ap (λ l. length (flatMap line l)) (range-suc 0 k)
-      ∙ ap length (flatMap-append line (range 0 k) ((0 + k) ∷ []))
-      ∙ length-append (flatMap line (range 0 k)) (flatMap line ((0 + k) ∷ []))
-      ∙ ap (λ n. length (flatMap line (range 0 k)) + n) (one (0 + k) ∙ ap (λ n. length (line n)) (zero-add k))
-    where
-      one : (n : ℕ) → length (flatMap line (n ∷ [])) ≡ length (line n)
-      one n = unfold flatMap in omega (arith, length-append (line n) [])
+  one-longer k = ap length (flat-range-last line k) ∙ length-append (flatMap line (range 0 k)) (line k)
 
 -- ---- all of them
 

@@ -12,10 +12,13 @@ ghost use Rattle.spec.specs.Printed.{printed};
 ghost use Rattle.printed.specs.Pieces.{listed, countOf, firstLine, slotText, firstLineSize, solutionTextSize};
 use printed::Opening;
 use spec::Limits;
+use spec::Solution;
 
 // An input whose book is one byte too long: what follows makes no difference (`printed-front` of crate
 // `printed`).
-const INPUT: usize = 16 + Limits::BOOK + 1;
+const INPUT: usize = printed::ENDS + Limits::BOOK + 1;
+
+const RECORDS: usize = Limits::SLOTS * Solution::SIZE;
 
 fn write_first(input: &[u8], line: &[u8]) -> usize
     requires { ⌜ now line ≡ firstLine (now input) (maxSlots * solutionSize) ⌝ }
@@ -79,7 +82,7 @@ fn print_slots(input: &[u8], records: &[u8], count: usize) -> usize
 fn print(input: &[u8]) -> usize
     ensures { λ r. ⌜ r ≡ length (printed sha256 (now (input .entry))) ⌝ }
 {
-    let mut records = io::large_buffer();
+    let mut records = [0u8; RECORDS];
     let first = print_first(input, &mut records);
     first.length + print_slots(input, &records, first.solutions)
 }

@@ -1,7 +1,7 @@
 -- Laws of writes: for callers, and the turns of the loops.
 -- Assumes nothing.
 use Prim.Native.Nat.{ℕ, zero, suc, _+_, _-_, _/_, _%_, _^_, _≤_, _<_, min}
-use native.Mathlib.Nat.{add-zero, add-suc, zero-add, suc-add}
+use native.Mathlib.Nat.{add-zero, add-suc, zero-add, suc-add, le-antisymm}
 use native.Mathlib.Numerals.{add-one}
 use native.Mathlib.Decide.{decLe}
 use native.Mathlib.Omega.{arith}
@@ -197,3 +197,8 @@ copied-all d at s from n k h = go (decLe (length d) (at + k))
     go : Dec (length d ≤ at + k) → written d at (take k (drop from s)) ≡ written d at (take n (drop from s))
     go (yes p) = ap (written d at) (sym (take-take k n (drop from s) (omega arith))) ∙ written-cut d at k (take n (drop from s)) p
     go (no p) = ap (written d at) (ends p (decLe n k))
+
+-- a loop that copies n bytes, at its end
+pub copied-done : (d : List ℕ) (at : ℕ) (s : List ℕ) (from j n : ℕ) → j ≤ n → n ≤ j → copied d at s from j ≡ written d at (take n (drop from s))
+unfolding copied
+copied-done d at s from j n p q = ap (λ k. written d at (take k (drop from s))) (le-antisymm p q)

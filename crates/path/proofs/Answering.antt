@@ -6,7 +6,7 @@ use denote.Enum.Declared.{tagOf}
 use types.Run.{OneOf}
 use mathlib.Core.Path.{_≡_, refl, sym, ap, ap₂, _∙_, subst}
 use mathlib.Core.Logic.{⊎-elim}
-use mathlib.Core.List.{List, [], _∷_, _++_, map, flatMap, List·Memᴰ as Mem}
+use mathlib.Core.List.{List, [], _∷_, _++_, map, flatMap, map-map, List·Memᴰ as Mem}
 use lib.ListN.{length, length-map}
 use Rattle.spec.specs.declared.IsdAsn.{IsdAsn}
 use Rattle.spec.specs.declared.Edge.{Edge}
@@ -24,6 +24,7 @@ use Rattle.spec.specs.Assembly.{least, isPeerEdge, atShortcut, isPeerHop, hopCo
 use Rattle.spec.specs.Records.{recordEdge, solutionIn, solutionOctets}
 use Rattle.spec.specs.ByRecord.{edgesIn as edgesNamed}
 use Rattle.spec.specs.Answers.{Assembled, assembly, leftBy, pathAnswer, refusedPath}
+use Rattle.spec.proofs.Lists.{map-same}
 use Rattle.spec.proofs.Membership.{map-mem}
 use Rattle.spec.proofs.BookLaws.{stored}
 use Rattle.spec.proofs.ByteLaws.{edges-back}
@@ -39,8 +40,8 @@ use Rattle.graph.specs.declared.Chain.{Chain}
 use Rattle.graph.specs.declared.Chain.the-variants.{Refused, Stranger, Edges}
 use Rattle.graph.specs.Recorded.{recorded}
 use Rattle.graph.proofs.RecordedLaws.{OfChain, said-refused, said-stranger, said-edges}
-use Rattle.path.specs.Usable.{Ready, edgeBy, Usable}
-use Rattle.path.specs.Whole.{edgeIn, edgesIn, UsableEdges, UsableRecord}
+use Rattle.graph.specs.Ready.{Ready}
+use Rattle.path.specs.Edges.{edgeBy, InBook, edgeIn, edgesIn, EdgesInBook, RecordInBook}
 
 -- what is left where a chain is not refused, and where it has no edges
 abbrev pub NotRefused : Chain → Type 0
@@ -81,14 +82,13 @@ module _ (b : List ℕ) (e : Edge) where
   unfolding expiryOn expiryOf hopsOf usedEntries hopCount hopOf isPeerHop atShortcut isPeerEdge segmentOf solutionEdge
   same-expiry = refl
 
-  same-usable : Usable b e → Usable b (again e)
+  same-in-book : InBook b e → InBook b (again e)
   unfolding segmentOf solutionEdge
-  same-usable u = record { position = u .position; shortcut = u .shortcut; peer = u .peer }
+  same-in-book u = record { position = u .position; shortcut = u .shortcut; peer = u .peer }
 
 module _ {A : Type 0} where
   map-again : (f : Edge → A) → ((e : Edge) → f (again e) ≡ f e) → (c : List Edge) → map f (map again c) ≡ map f c
-  map-again f h [] = refl
-  map-again f h (e ∷ c) = ap₂ (λ x l. x ∷ l) (h e) (map-again f h c)
+  map-again f h c = map-map f again c ∙ map-same (λ e. f (again e)) f h c
 
   flat-again : (f : Edge → List A) → ((e : Edge) → f (again e) ≡ f e) → (c : List Edge) → flatMap f (map again c) ≡ flatMap f c
   unfolding flatMap
@@ -111,10 +111,6 @@ same-answer b bytes c = ap (λ (p : CombinedPath). (outcome p, leftBy (outcome p
 
 -- ---- the edges of a chain's record
 
-map-map : {A B C : Type 0} (f : A → B) (g : B → C) (xs : List A) → map g (map f xs) ≡ map (λ x. g (f x)) xs
-map-map f g [] = refl
-map-map f g (x ∷ xs) = ap (λ l. g (f x) ∷ l) (map-map f g xs)
-
 record-edges : (c : List Edge) → map (recordEdge (solutionOctets c)) (range 0 (length c)) ≡ map solutionEdge c
 unfolding edgesNamed solutionIn solutionOctets padded octets2
 record-edges c = edges-back c
@@ -122,9 +118,9 @@ record-edges c = edges-back c
 edges-again : (c : List Edge) → edgesIn (solutionOctets c) (length c) ≡ map again c
 unfolding edgesIn edgeIn
 edges-again c =
-    sym (map-map (recordEdge (solutionOctets c)) edgeBy (range 0 (length c)))
+    sym (map-map edgeBy (recordEdge (solutionOctets c)) (range 0 (length c)))
     ∙ ap (map edgeBy) (record-edges c)
-    ∙ map-map solutionEdge edgeBy c
+    ∙ map-map edgeBy solutionEdge c
 
 -- ---- what the assembly of a chain goes by
 
@@ -138,22 +134,22 @@ module _ (b : List ℕ) (src dst : IsdAsn) (given : List ℕ) (n : ℕ) (of : (c
   chain-edges : edgesIn given n ≡ map again c
   chain-edges = ap₂ edgesIn (of .1 .its) (sym (of .2)) ∙ edges-again c
 
-  pub chain-usable : UsableRecord b given n
-  chain-usable =
+  pub chain-in-book : RecordInBook b given n
+  chain-in-book =
       record {
-        edges = subst (UsableEdges b) (sym chain-edges) usable;
+        edges = subst (EdgesInBook b) (sym chain-edges) usable;
         room = omega (arith, ap length (of .1 .its), solution-length c few);
       }
     where
-      edge : (e : Edge) → Mem e c → Usable b e
+      edge : (e : Edge) → Mem e c → InBook b e
       edge e m =
           let s = stored b (of .1 .chain .stored e m) in
           record { position = s .position; shortcut = s .edge .shortcut; peer = s .edge .peer }
 
-      usable : UsableEdges b (map again c)
+      usable : EdgesInBook b (map again c)
       usable =
           record {
-            edges = λ e m. let w = map-mem again c m in subst (Usable b) (sym (w .2)) (same-usable b (w .0) (edge (w .0) (w .1)));
+            edges = λ e m. let w = map-mem again c m in subst (InBook b) (sym (w .2)) (same-in-book b (w .0) (edge (w .0) (w .1)));
             few = omega (arith, length-map c again, few);
           }
 

@@ -1,15 +1,14 @@
 -- The record of a whole path, and the answer.
 -- Assumes nothing.
-use Prim.Native.Nat.{ℕ, zero, suc, _+_, _-_, _*_, _/_, _^_, _≤_, _<_}
-use native.Mathlib.Nat.{suc-mul, zero-add, add-zero}
+use Prim.Native.Nat.{ℕ, _+_, _-_, _*_, _/_, _^_, _≤_, _<_}
+use native.Mathlib.Nat.{zero-add}
 use native.Mathlib.Omega.{arith}
 use mathlib.Core.Path.{_≡_, refl, sym, ap, ap₂, _∙_, subst}
 use mathlib.Core.Bool.{Bool, true, false}
-use mathlib.Core.List.{List, [], _∷_, _++_, map, flatMap, append-assoc, List·Memᴰ as Mem, List·Memᴰ·head as head, List·Memᴰ·tail as tail}
-use lib.ListN.{length, getD, take, drop, replicate, length-append, length-map, length-take, length-drop, take-append-drop}
+use mathlib.Core.List.{List, [], _∷_, _++_, map, flatMap, map-map, append-assoc}
+use lib.ListN.{length, getD, take, drop, replicate, length-append, length-map, length-take, length-drop, take-append-drop, List·getD-map}
 use lib.Seq.{length-take-le, drop-at}
 use Rattle.spec.specs.declared.IsdAsn.{IsdAsn}
-use Rattle.spec.specs.declared.HopField.{HopField}
 use Rattle.spec.specs.declared.PathInterface.{PathInterface}
 use Rattle.spec.specs.declared.Edge.{Edge}
 use Rattle.spec.specs.declared.Path.{Path as PathHead}
@@ -18,27 +17,29 @@ use Rattle.spec.specs.declared.PathAnswer.the-variants.{Path, Loop, Bare}
 use Rattle.spec.specs.Limits.{maxEdges, maxEntries, pathSize, pathHeadSize, infoSize, hopSize}
 use Rattle.spec.specs.Basics.{if_then_else_, range, padded}
 use Rattle.spec.specs.Octets.{Bytes, octets2, octets4, octets8}
-use Rattle.spec.specs.Book.{Segment, isdAsnAt}
-use Rattle.spec.specs.Assembly.{hopCount, usedEntries, interfaceIf, interfacesAt, interfacesOf, segmentOf, infoOn, hopsOn, interfacesOn, CombinedPath, combinedPath, isLoop, isBare, outcome}
+use Rattle.spec.specs.Book.{isdAsnAt}
+use Rattle.spec.specs.Assembly.{hopCount, segmentOf, infoOn, hopsOn, interfacesOn, CombinedPath, combinedPath, isLoop, isBare, outcome}
 use Rattle.spec.specs.Records.{infoOctets, hopOctets, asOctets, interfaceAsOctets, interfaceIdOctets, noInterface, pathHead, pathHeadOctets, pathOctets}
 use Rattle.spec.specs.Answers.{leftBy, pathAnswer}
-use Rattle.spec.proofs.Membership.{map-mem, flatMap-mem}
-use Rattle.spec.proofs.ByteLaws.{GoodHop, octets8-back, isdAsnAt-shift, info-length, hop-length, read-all}
-use Rattle.spec.proofs.BookLaws.{AcceptedBook, hops-good}
-use Rattle.spec.proofs.PathLaws.{direction-length, used-length, hops-length, head-length}
-use Rattle.spec.proofs.Bounds.{flat-exact}
-use Rattle.spec.proofs.ReadBack.{good-interfaces}
+use Rattle.spec.proofs.Lists.{flat-map, flat-flat}
+use Rattle.spec.proofs.Membership.{map-mem}
+use Rattle.spec.proofs.ByteLaws.{isdAsnAt-shift, info-length, hop-length, read-all}
+use Rattle.spec.proofs.BookLaws.{AcceptedBook}
+use Rattle.spec.proofs.PathLaws.{hops-length, head-length, good-hops}
+use Rattle.spec.proofs.Bounds.{flat-most, flat-exact, interfaces-most}
+use Rattle.spec.proofs.ReadBack.{as-back, as-length, ases-flat, good-interfaces}
+use Rattle.segment.proofs.Fitting.{map-range-at}
 use Rattle.output.specs.Write.{written, zeroed}
-use Rattle.output.proofs.Writing.{written-pair, written-next, zeroed-rest, zeroed-all}
+use Rattle.output.proofs.Writing.{written-next, zeroed-rest, zeroed-all}
+use Rattle.path.specs.Thrice.{numberAt, numbersIn, someThrice}
 use Rattle.path.specs.declared.record.Ends.{Ends}
-use Rattle.path.specs.Usable.{Usable}
+use Rattle.path.specs.Edges.{InBook, EdgesInBook}
 use Rattle.path.specs.Places.{Wrote, Appended}
 use Rattle.path.specs.Parts.{Hops, Ases, Ids, infoBytes, edgeBytes}
-use Rattle.path.specs.Whole.{UsableEdges, numberAt, numbersIn, someFrequent, Drawn, Placed}
+use Rattle.path.specs.Whole.{EndsOf, HopsAndIds}
 use Rattle.path.proofs.Writes.{appended-join, appended-some, appended-before}
 use Rattle.path.proofs.Standing.{count-most}
-use Rattle.path.proofs.Walking.{flat-map, flat-flat}
-use Rattle.path.proofs.Repeats.{numberOf, loop-of}
+use Rattle.path.proofs.Thrice.{numberOf, loop-thrice}
 
 -- ---- the parts of a chain are those of its path
 
@@ -61,40 +62,14 @@ module _ (b : List ℕ) (c : List Edge) where
 
 -- ---- how long they are
 
-module _ {A B : Type 0} (f : A → List B) (size : ℕ) where
-  flat-most : (xs : List A) → ((x : A) → Mem x xs → length (f x) ≤ size) → length (flatMap f xs) ≤ length xs * size
-  unfolding flatMap
-  flat-most [] h = omega arith
-  flat-most (x ∷ xs) h =
-      omega (arith, suc-mul (length xs) size, length-append (f x) (flatMap f xs), h x (head refl), flat-most xs (λ y m. h y (tail m)))
-
-at-most-one : (t : Bool) (a : IsdAsn) (id : ℕ) → length (interfaceIf t a id) ≤ 1
-unfolding interfaceIf
-at-most-one true a id = omega arith
-at-most-one false a id = omega arith
-
-two-interfaces : (seg : Segment) (e : Edge) (i : ℕ) → length (interfacesAt seg e i) ≤ 2
-unfolding interfacesAt
-two-interfaces seg e i = both _ _ _ _ _
-  where
-    both : (s t : Bool) (a : IsdAsn) (x y : ℕ) → length (interfaceIf s a x ++ interfaceIf t a y) ≤ 2
-    both s t a x y = omega (arith, length-append (interfaceIf s a x) (interfaceIf t a y), at-most-one s a x, at-most-one t a y)
-
-module _ (b : List ℕ) (a : AcceptedBook b) (e : Edge) (u : Usable b e) where
+module _ (b : List ℕ) (a : AcceptedBook b) (e : Edge) (u : InBook b e) where
   hops-few : length (hopsOn b e) ≤ maxEntries
   unfolding hopsOn hopCount
   hops-few = omega (arith, hops-length (segmentOf b e) e, count-most b a e u)
 
   interfaces-few : length (interfacesOn b e) ≤ maxEntries * 2
-  unfolding interfacesOn interfacesOf hopCount
-  interfaces-few =
-      omega (
-        arith,
-        direction-length (e .construction) (flatMap (interfacesAt (segmentOf b e) e) (usedEntries (segmentOf b e) e)),
-        used-length (segmentOf b e) e,
-        flat-most (interfacesAt (segmentOf b e) e) 2 (usedEntries (segmentOf b e) e) (λ i m. two-interfaces (segmentOf b e) e i),
-        count-most b a e u,
-      )
+  unfolding interfacesOn hopCount
+  interfaces-few = omega (arith, interfaces-most (segmentOf b e) e, count-most b a e u)
 
 pub record Lengths (b : List ℕ) (c : List Edge) : Type 0 where
   pub infos : length (flatMap (infoBytes b) c) ≡ infoSize * length c
@@ -106,20 +81,16 @@ pub record Lengths (b : List ℕ) (c : List Edge) : Type 0 where
   pub few-interfaces : length (combinedPath b c .interfaces) ≤ maxEdges * maxEntries * 2
 
 module _ (b : List ℕ) (bytes : Bytes b) where
-  good-hops : (c : List Edge) (h : HopField) → Mem h (combinedPath b c .hops) → GoodHop h
-  unfolding combinedPath hopsOn segmentOf
-  good-hops c h m = let w = flatMap-mem (hopsOn b) c m in hops-good b bytes (w .0 .position) (w .0) (w .2)
-
-  pub lengths : AcceptedBook b → (c : List Edge) → UsableEdges b c → Lengths b c
+  pub lengths : AcceptedBook b → (c : List Edge) → EdgesInBook b c → Lengths b c
   lengths a c u =
       record {
         infos = ap length (infos-of b c) ∙ omega (arith, flat-exact infoOctets infoSize (p .infos) (λ i m. info-length i), infos-length);
-        hops = ap length (hops-of b c) ∙ omega (arith, flat-exact hopOctets hopSize (p .hops) (λ h m. hop-length h (good-hops c h m)));
+        hops = ap length (hops-of b c) ∙ omega (arith, flat-exact hopOctets hopSize (p .hops) (λ h m. hop-length h (good-hops b bytes c h m)));
         ases = ap length (ases-of b c) ∙ omega (arith, flat-exact interfaceAsOctets 8 (p .interfaces) (λ i m. unfold interfaceAsOctets asOctets octets8 octets4 octets2 in refl));
         ids = ap length (ids-of b c) ∙ omega (arith, flat-exact interfaceIdOctets 2 (p .interfaces) (λ i m. unfold interfaceIdOctets octets2 in refl));
         few-infos = u .few;
-        few-hops = omega (arith, hops-most, u .few);
-        few-interfaces = omega (arith, interfaces-most, u .few);
+        few-hops = omega (arith, all-hops, u .few);
+        few-interfaces = omega (arith, all-interfaces, u .few);
       }
     where
       p : CombinedPath
@@ -128,41 +99,21 @@ module _ (b : List ℕ) (bytes : Bytes b) where
       infos-length : length (p .infos) ≡ length c
       infos-length = unfold combinedPath in length-map c (infoOn b)
 
-      hops-most : length (p .hops) ≤ length c * maxEntries
-      hops-most = unfold combinedPath in flat-most (hopsOn b) maxEntries c (λ e m. hops-few b a e (u .edges e m))
+      all-hops : length (p .hops) ≤ length c * maxEntries
+      all-hops = unfold combinedPath in flat-most (hopsOn b) maxEntries c (λ e m. hops-few b a e (u .edges e m))
 
-      interfaces-most : length (p .interfaces) ≤ length c * (maxEntries * 2)
-      interfaces-most = unfold combinedPath in flat-most (interfacesOn b) (maxEntries * 2) c (λ e m. interfaces-few b a e (u .edges e m))
+      all-interfaces : length (p .interfaces) ≤ length c * (maxEntries * 2)
+      all-interfaces = unfold combinedPath in flat-most (interfacesOn b) (maxEntries * 2) c (λ e m. interfaces-few b a e (u .edges e m))
 
 -- ---- interfaces read from the record
 
 abbrev localOf : PathInterface → IsdAsn
 localOf i = i .local
 
-ases-flat : (is : List PathInterface) → flatMap interfaceAsOctets is ≡ flatMap asOctets (map localOf is)
-unfolding interfaceAsOctets
-ases-flat is = sym (flat-map localOf asOctets is)
+abbrev number : IsdAsn → ℕ
+number a = a .0
 
-as-back : (a : IsdAsn) → a .0 < 2 ^ 64 → (rest : List ℕ) → isdAsnAt (asOctets a ++ rest) 0 ≡ a
-unfolding isdAsnAt asOctets
-as-back a h rest = λ k. record { 0 = octets8-back (a .0) rest h k }
-
-as-length : (a : IsdAsn) → a .0 < 2 ^ 64 → length (asOctets a) ≡ 8
-unfolding asOctets octets8 octets4 octets2
-as-length a h = refl
-
-map-at : {A : Type 0} (f : ℕ → A) (d : A) (i n k : ℕ) → k < n → getD (map f (range i n)) k d ≡ f (i + k)
-unfolding range
-map-at f d i zero k h = absurd (omega arith)
-map-at f d i (suc n) zero h = ap f (sym (add-zero i))
-map-at f d i (suc n) (suc k) h = map-at f d (i + 1) n k (omega arith) ∙ ap f (omega arith)
-
-getD-map : {A B : Type 0} (f : A → B) (xs : List A) (k : ℕ) (d : A) → getD (map f xs) k (f d) ≡ f (getD xs k d)
-getD-map f [] k d = refl
-getD-map f (x ∷ xs) zero d = refl
-getD-map f (x ∷ xs) (suc k) d = getD-map f xs k d
-
-module _ (b : List ℕ) (bytes : Bytes b) (accepted : AcceptedBook b) (c : List Edge) (u : UsableEdges b c) (a : List ℕ) (ends : Ends) (f : Drawn b c a ends) where
+module _ (b : List ℕ) (bytes : Bytes b) (accepted : AcceptedBook b) (c : List Edge) (u : EdgesInBook b c) (a : List ℕ) (ends : Ends) (f : EndsOf b c a ends) where
   abbrev p : CombinedPath
   p = combinedPath b c
 
@@ -181,9 +132,6 @@ module _ (b : List ℕ) (bytes : Bytes b) (accepted : AcceptedBook b) (c : List 
     pub hops : ends .hops ≡ pathHeadSize + infoSize * length c + hopSize * length (p .hops)
     pub ases : ends .ases ≡ 8 * length (p .interfaces)
     pub ids : ends .ids ≡ 2 * length (p .interfaces)
-    pub few-infos : length c ≤ maxEdges
-    pub few-hops : length (p .hops) ≤ maxEdges * maxEntries
-    pub few-interfaces : length (p .interfaces) ≤ maxEdges * maxEntries * 2
 
   pub reach : Reach
   reach =
@@ -192,9 +140,6 @@ module _ (b : List ℕ) (bytes : Bytes b) (accepted : AcceptedBook b) (c : List 
         hops = f .hops-end ∙ ap (λ n. pathHeadSize + infoSize * length c + n) (s .hops);
         ases = f .ases-end ∙ s .ases;
         ids = f .ids-end ∙ s .ids;
-        few-infos = s .few-infos;
-        few-hops = s .few-hops;
-        few-interfaces = s .few-interfaces;
       }
 
   ases-stand : a ≡ [] ++ (flatMap asOctets (map localOf (p .interfaces)) ++ drop (ends .ases) a)
@@ -209,27 +154,16 @@ module _ (b : List ℕ) (bytes : Bytes b) (accepted : AcceptedBook b) (c : List 
 
   as-read : (k : ℕ) → k < length (p .interfaces) → isdAsnAt a (0 + 8 * k) ≡ getD (p .interfaces) k noInterface .local
   as-read k h =
-      sym (map-at (λ i. isdAsnAt a (0 + 8 * i)) (noInterface .local) 0 (length (p .interfaces)) k h ∙ ap (λ i. isdAsnAt a (0 + 8 * i)) (zero-add k))
-      ∙ ap (λ l. getD l k (noInterface .local)) ases-read ∙ getD-map localOf (p .interfaces) k noInterface
+      sym (map-range-at (λ i. isdAsnAt a (0 + 8 * i)) 0 (length (p .interfaces)) k (noInterface .local) h ∙ ap (λ i. isdAsnAt a (0 + 8 * i)) (zero-add k))
+      ∙ ap (λ l. getD l k (noInterface .local)) ases-read ∙ List·getD-map localOf (p .interfaces) k noInterface
 
-  loop-read : someFrequent (numbersIn a 0 (ends .ases / 8)) (numbersIn a 0 (ends .ases / 8)) ≡ isLoop (p .interfaces)
-  loop-read = ap (λ l. someFrequent l l) (ap (numbersIn a 0) (interfaces-count .0) ∙ numbers) ∙ sym (loop-of (p .interfaces))
+  loop-read : someThrice (numbersIn a 0 (ends .ases / 8)) ≡ isLoop (p .interfaces)
+  loop-read = ap someThrice (ap (numbersIn a 0) (interfaces-count .0) ∙ numbers) ∙ sym (loop-thrice (p .interfaces))
     where
-      number : IsdAsn → ℕ
-      number x = x .0
-
-      map-map : (g : ℕ → IsdAsn) (ks : List ℕ) → map number (map g ks) ≡ map (λ k. g k .0) ks
-      map-map g [] = refl
-      map-map g (k ∷ ks) = ap (λ l. g k .0 ∷ l) (map-map g ks)
-
-      map-map′ : (is : List PathInterface) → map number (map localOf is) ≡ map numberOf is
-      map-map′ [] = refl
-      map-map′ (i ∷ is) = ap (λ l. i .local .0 ∷ l) (map-map′ is)
-
       numbers : numbersIn a 0 (length (p .interfaces)) ≡ map numberOf (p .interfaces)
       numbers =
           unfold numbersIn numberAt isdAsnAt in
-          (sym (map-map (λ k. isdAsnAt a (0 + 8 * k)) (range 0 (length (p .interfaces)))) ∙ ap (map number) ases-read ∙ map-map′ (p .interfaces))
+          (sym (map-map number (λ k. isdAsnAt a (0 + 8 * k)) (range 0 (length (p .interfaces)))) ∙ ap (map number) ases-read ∙ map-map number localOf (p .interfaces))
 
   -- ---- the head
 
@@ -257,14 +191,14 @@ module _ (b : List ℕ) (bytes : Bytes b) (accepted : AcceptedBook b) (c : List 
 
   -- ---- the answer
 
-  told : (t : Bool) → t ≡ someFrequent (numbersIn a 0 (ends .ases / 8)) (numbersIn a 0 (ends .ases / 8)) → t ≡ isLoop (p .interfaces)
-  told t frequent = frequent ∙ loop-read
+  told : (t : Bool) → t ≡ someThrice (numbersIn a 0 (ends .ases / 8)) → t ≡ isLoop (p .interfaces)
+  told t thrice = thrice ∙ loop-read
 
   answer : (n : ℕ) (r : PathAnswer) → outcome p ≡ r → (d′ : List ℕ) → d′ ≡ leftBy r n p → (r ≡ pathAnswer b n c .0) × (d′ ≡ pathAnswer b n c .1)
   unfolding pathAnswer
   answer n r q d′ e = (sym q, e ∙ ap (λ x. leftBy x n p) (sym q))
 
-  module _ (d : List ℕ) (n : ℕ) (same : length d ≡ n) (t : Bool) (frequent : t ≡ someFrequent (numbersIn a 0 (ends .ases / 8)) (numbersIn a 0 (ends .ases / 8))) where
+  module _ (d : List ℕ) (n : ℕ) (same : length d ≡ n) (t : Bool) (thrice : t ≡ someThrice (numbersIn a 0 (ends .ases / 8))) where
     zeros : (d′ : List ℕ) → d′ ≡ zeroed d 0 → d′ ≡ replicate n 0
     zeros d′ e = e ∙ zeroed-all d ∙ ap (λ k. replicate {A = ℕ} k 0) same
 
@@ -277,7 +211,7 @@ module _ (b : List ℕ) (bytes : Bytes b) (accepted : AcceptedBook b) (c : List 
     answer-loop q d′ e = answer n Loop loops d′ (zeros d′ e)
       where
         loops : outcome p ≡ Loop
-        loops = unfold outcome in (ap (λ (s : Bool). if s then Loop else if isBare (p .interfaces) then Bare else Path) (sym (told t frequent) ∙ q))
+        loops = unfold outcome in (ap (λ (s : Bool). if s then Loop else if isBare (p .interfaces) then Bare else Path) (sym (told t thrice) ∙ q))
 
     pub answer-bare : t ≡ false → ends .ases / 8 ≡ 0 → (d′ : List ℕ) → d′ ≡ zeroed d 0
         → (Bare ≡ pathAnswer b n c .0) × (d′ ≡ pathAnswer b n c .1)
@@ -286,13 +220,13 @@ module _ (b : List ℕ) (bytes : Bytes b) (accepted : AcceptedBook b) (c : List 
         bare : outcome p ≡ Bare
         bare =
             unfold outcome in
-            (ap₂ (λ (s v : Bool). if s then Loop else if v then Bare else Path) (sym (told t frequent) ∙ q)
+            (ap₂ (λ (s v : Bool). if s then Loop else if v then Bare else Path) (sym (told t thrice) ∙ q)
             (bare-is (p .interfaces) (sym (interfaces-count .0) ∙ none)))
 
-  pub answer-path : (t : Bool) → t ≡ someFrequent (numbersIn a 0 (ends .ases / 8)) (numbersIn a 0 (ends .ases / 8)) → t ≡ false → (ends .ases / 8 ≡ 0 → ⊥)
+  pub answer-path : (t : Bool) → t ≡ someThrice (numbersIn a 0 (ends .ases / 8)) → t ≡ false → (ends .ases / 8 ≡ 0 → ⊥)
       → (m : ℕ) (d′ : List ℕ) → d′ ≡ padded m (pathOctets (combinedPath b c)) → (n : ℕ) → m ≡ n
       → (Path ≡ pathAnswer b n c .0) × (d′ ≡ pathAnswer b n c .1)
-  answer-path t frequent q some m d′ e n same = answer n Path path d′ (e ∙ ap (λ k. padded k (pathOctets p)) same)
+  answer-path t thrice q some m d′ e n same = answer n Path path d′ (e ∙ ap (λ k. padded k (pathOctets p)) same)
     where
       full-is : (is : List PathInterface) → (length is ≡ 0 → ⊥) → isBare is ≡ false
       full-is [] h = absurd (h refl)
@@ -301,7 +235,7 @@ module _ (b : List ℕ) (bytes : Bytes b) (accepted : AcceptedBook b) (c : List 
       path : outcome p ≡ Path
       path =
           unfold outcome in
-          (ap₂ (λ (s v : Bool). if s then Loop else if v then Bare else Path) (sym (told t frequent) ∙ q)
+          (ap₂ (λ (s v : Bool). if s then Loop else if v then Bare else Path) (sym (told t thrice) ∙ q)
           (full-is (p .interfaces) (λ z. some (interfaces-count .0 ∙ z))))
 
 -- ---- the whole
@@ -345,8 +279,8 @@ filled-up before top xs d₁ d₂ d₃ end w l room q₂ q₃ =
 octets-are : (h i k x y : List ℕ) → (((h ++ i) ++ k) ++ x) ++ y ≡ h ++ (((i ++ k) ++ x) ++ y)
 octets-are h i k x y = simp append-assoc
 
-module _ (b : List ℕ) (bytes : Bytes b) (accepted : AcceptedBook b) (c : List Edge) (u : UsableEdges b c) (d a i : List ℕ) (ends : Ends)
-    (f : Drawn b c a ends) (g : Placed b c d i ends) (room : pathSize ≤ length d) where
+module _ (b : List ℕ) (bytes : Bytes b) (accepted : AcceptedBook b) (c : List Edge) (u : EdgesInBook b c) (d a i : List ℕ) (ends : Ends)
+    (f : EndsOf b c a ends) (g : HopsAndIds b c d i ends) (room : pathSize ≤ length d) where
   abbrev whole : CombinedPath
   whole = combinedPath b c
 
@@ -369,7 +303,8 @@ module _ (b : List ℕ) (bytes : Bytes b) (accepted : AcceptedBook b) (c : List 
   pub whole-fits : ends .hops + ends .ases + ends .ids ≤ pathSize
   whole-fits =
       let s = reach b bytes accepted c u a ends f in
-      omega (arith, s .hops, s .ases, s .ids, s .few-infos, s .few-hops, s .few-interfaces)
+      let l = lengths b bytes accepted c u in
+      omega (arith, s .hops, s .ases, s .ids, l .few-infos, l .few-hops, l .few-interfaces)
 
   pub whole-is : (d₁ d₂ d₃ d₄ d₅ : List ℕ) (r : ℕ) (h : PathHead) → Wrote d pathHeadSize (flatMap (infoBytes b) c) d₁ r
       → d₂ ≡ written d₁ (ends .hops) (take (ends .ases) (drop 0 a)) → d₃ ≡ written d₂ (ends .hops + ends .ases) (take (ends .ids) (drop 0 i))
@@ -400,26 +335,3 @@ module _ (b : List ℕ) (bytes : Bytes b) (accepted : AcceptedBook b) (c : List 
           appended-join (appended-join first second)
           (appended-some d₂ (ends .hops + ends .ases) (flatMap (edgeBytes b Ids) c) d₃ (q₃ ∙ ap (written d₂ (ends .hops + ends .ases)) (g .ids))
           (omega (arith, second .size, first .size, f .ids-end, fits)) (ends .ids) (sym (f .ids-end)))
-
--- ---- the bytes before the infos
-
-pub counts-written : (d : List ℕ) (i h n : ℕ)
-    → written (written (written (written d 0 (i ∷ [])) 1 (h ∷ [])) 2 (n ∷ [])) 3 (0 ∷ []) ≡ written d 0 (i ∷ h ∷ n ∷ 0 ∷ [])
-counts-written d i h n =
-    ap (λ l. written (written l 2 (n ∷ [])) 3 (0 ∷ [])) (written-pair d 0 1 (i ∷ []) (h ∷ []) refl)
-    ∙ ap (λ l. written l 3 (0 ∷ [])) (written-pair d 0 2 (i ∷ h ∷ []) (n ∷ []) refl)
-    ∙ written-pair d 0 3 (i ∷ h ∷ n ∷ []) (0 ∷ []) refl
-
-pub ends-written : (d : List ℕ) (m e f l : ℕ)
-    → written (written (written (written d 4 (octets2 m)) 6 (octets4 e)) 10 (octets8 f)) 18 (octets8 l) ≡ written d 4 (octets2 m ++ octets4 e ++ octets8 f ++ octets8 l)
-ends-written d m e f l =
-    ap (λ x. written (written x 10 (octets8 f)) 18 (octets8 l)) (written-pair d 4 2 (octets2 m) (octets4 e) (unfold octets2 in refl))
-    ∙ ap (λ x. written x 18 (octets8 l)) (written-pair d 4 6 (octets2 m ++ octets4 e) (octets8 f) (unfold octets4 octets2 in refl))
-    ∙ written-pair d 4 14 (octets2 m ++ octets4 e ++ octets8 f) (octets8 l) (unfold octets8 octets4 octets2 in refl)
-
-pub head-written : (d : List ℕ) (h : PathHead)
-    → written (written d 0 (h .infos ∷ h .hops ∷ h .interfaces ∷ 0 ∷ [])) 4 (octets2 (h .mtu) ++ octets4 (h .expiry) ++ octets8 (h .first .0) ++ octets8 (h .last .0))
-    ≡ written d 0 (pathHeadOctets h)
-unfolding pathHeadOctets asOctets octets8 octets4 octets2
-head-written d h =
-    written-pair d 0 4 (h .infos ∷ h .hops ∷ h .interfaces ∷ 0 ∷ []) (octets2 (h .mtu) ++ octets4 (h .expiry) ++ octets8 (h .first .0) ++ octets8 (h .last .0)) refl

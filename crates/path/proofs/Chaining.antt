@@ -8,22 +8,21 @@ use mathlib.Core.List.{List, [], _∷_, _++_, map, flatMap, List·Memᴰ as Mem}
 use lib.ListN.{length, length-map}
 use Rattle.spec.specs.declared.Edge.{Edge}
 use Rattle.spec.specs.declared.SolutionEdge.{SolutionEdge}
-use Rattle.spec.specs.Limits.{maxMtu, maxTime, pathHeadSize, infoSize}
+use Rattle.spec.specs.Limits.{maxEdges, solutionHeadSize, edgeSize, maxMtu, maxTime, pathHeadSize, infoSize}
 use Rattle.spec.specs.Basics.{range}
 use Rattle.spec.specs.Assembly.{least, mtusOn, expiryOn}
 use Rattle.spec.specs.Records.{recordEdge}
-use Rattle.spec.proofs.Lists.{map-append, flatMap-append, length-range}
+use Rattle.spec.proofs.Lists.{map-append, map-range-last, flatMap-append, flat-one, length-range}
 use Rattle.spec.proofs.Membership.{mem-map}
 use Rattle.spec.proofs.BookLaws.{mem-range}
 use Rattle.path.specs.declared.entry.Walk.{Walk}
 use Rattle.path.specs.declared.record.Ends.{Ends}
-use Rattle.path.specs.Usable.{edgeBy, Usable}
+use Rattle.path.specs.Edges.{edgeBy, InBook, edgeIn, edgesIn, RecordInBook}
 use Rattle.path.specs.Places.{Wrote, Appended}
 use Rattle.path.specs.Parts.{Hops, Ases, Ids, edgeBytes, EdgeWalked}
-use Rattle.path.specs.Whole.{edgeIn, edgesIn, UsableRecord, Drawn, Placed}
+use Rattle.path.specs.Whole.{EndsOf, HopsAndIds}
 use Rattle.path.proofs.Writes.{wrote-none, wrote-join, wrote-as, appended-none, appended-join, appended-as}
 use Rattle.path.proofs.Showing.{least-append, least-one}
-use Rattle.path.proofs.Walking.{range-more, flat-one}
 
 module _ (given : List ℕ) where
   edges-length : (n : ℕ) → length (edgesIn given n) ≡ n
@@ -36,20 +35,20 @@ module _ (given : List ℕ) where
 
   edges-more : (x : ℕ) → edgesIn given (x + 1) ≡ edgesIn given x ++ (edgeBy (recordEdge given x) ∷ [])
   unfolding edgesIn edgeIn
-  edges-more x = range-more (edgeIn given) x
+  edges-more x = map-range-last (edgeIn given) x
 
-  module _ (b : List ℕ) (n : ℕ) (u : UsableRecord b given n) where
+  module _ (b : List ℕ) (n : ℕ) (u : RecordInBook b given n) where
     pub edges-are : length (edgesIn given n) ≡ n
     edges-are = edges-length n
 
-    pub few-edges : n ≤ 3
+    pub few-edges : n ≤ maxEdges
     few-edges = omega (arith, u .edges .few, edges-length n)
 
-    pub edge-fits : (x : ℕ) → x < n → 4 + 4 * x + 4 ≤ length given
+    pub edge-fits : (x : ℕ) → x < n → solutionHeadSize + edgeSize * x + edgeSize ≤ length given
     edge-fits x h = omega (arith, few-edges, u .room)
 
-    pub edge-usable : (x : ℕ) → x < n → (e : SolutionEdge) → e ≡ recordEdge given x → Usable b (edgeBy e)
-    edge-usable x h e q = subst (λ s. Usable b (edgeBy s)) (sym q) (u .edges .edges (edgeBy (recordEdge given x)) (edges-mem n x h))
+    pub edge-in-book : (x : ℕ) → x < n → (e : SolutionEdge) → e ≡ recordEdge given x → InBook b (edgeBy e)
+    edge-in-book x h e q = subst (λ s. InBook b (edgeBy s)) (sym q) (u .edges .edges (edgeBy (recordEdge given x)) (edges-mem n x h))
 
   -- ---- what is written of each edge
 
@@ -100,7 +99,7 @@ module _ (given : List ℕ) where
 -- ---- the walk over all
 
 -- the first x edges are walked, hops from `start` on
-pub record Gone (b given : List ℕ) (start x : ℕ) (o o′ a a′ i i′ : List ℕ) (ends : Ends) : Type 0 where
+pub record EdgesWalked (b given : List ℕ) (start x : ℕ) (o o′ a a′ i i′ : List ℕ) (ends : Ends) : Type 0 where
   pub hops : Appended o start (flatMap (edgeBytes b Hops) (edgesIn given x)) o′ (ends .hops)
   pub ases : Appended a 0 (flatMap (edgeBytes b Ases) (edgesIn given x)) a′ (ends .ases)
   pub ids : Appended i 0 (flatMap (edgeBytes b Ids) (edgesIn given x)) i′ (ends .ids)
@@ -108,17 +107,17 @@ pub record Gone (b given : List ℕ) (start x : ℕ) (o o′ a a′ i i′ : Lis
   pub expiry : ends .expiry ≡ least maxTime (map (expiryOn b) (edgesIn given x))
 
 module _ (b given : List ℕ) (start : ℕ) where
-  pub gone-none : (o a i : List ℕ) → Gone b given start 0 o o a a i i (record { hops = start; ases = 0; ids = 0; mtu = maxMtu; expiry = maxTime })
+  pub walked-none : (o a i : List ℕ) → EdgesWalked b given start 0 o o a a i i (record { hops = start; ases = 0; ids = 0; mtu = maxMtu; expiry = maxTime })
   unfolding flatMap edgesIn range least
-  gone-none o a i =
+  walked-none o a i =
       record { hops = appended-none o start; ases = appended-none a 0; ids = appended-none i 0; mtu = refl; expiry = refl }
 
-  pub gone-more : (x : ℕ) (e : SolutionEdge) → e ≡ recordEdge given x
-      → {o o₁ o₂ a a₁ a₂ i i₁ i₂ : List ℕ} {ends : Ends} → Gone b given start x o o₁ a a₁ i i₁ ends
+  pub walked-more : (x : ℕ) (e : SolutionEdge) → e ≡ recordEdge given x
+      → {o o₁ o₂ a a₁ a₂ i i₁ i₂ : List ℕ} {ends : Ends} → EdgesWalked b given start x o o₁ a a₁ i i₁ ends
       → {w : Walk} → EdgeWalked b (edgeBy e) o₁ o₂ a₁ a₂ i₁ i₂ (record { hops = ends .hops; ases = ends .ases; ids = ends .ids; mtu = ends .mtu; units = 255 }) w
       → (end soon : ℕ) → end ≡ expiryOn b (edgeBy e) → soon ≡ min (ends .expiry) end
-      → Gone b given start (x + 1) o o₂ a a₂ i i₂ (record { hops = w .hops; ases = w .ases; ids = w .ids; mtu = w .mtu; expiry = soon })
-  gone-more x e q {ends = ends} g {w} v end soon t s =
+      → EdgesWalked b given start (x + 1) o o₂ a a₂ i i₂ (record { hops = w .hops; ases = w .ases; ids = w .ids; mtu = w .mtu; expiry = soon })
+  walked-more x e q {ends = ends} g {w} v end soon t s =
       record {
         hops = appended-more given (edgeBytes b Hops) x e q (g .hops) (v .hops);
         ases = appended-more given (edgeBytes b Ases) x e q (g .ases) (v .ases);
@@ -134,9 +133,9 @@ module _ (b given : List ℕ) (start : ℕ) where
     starts : start ≡ pathHeadSize + infoSize * length (edgesIn given n)
     starts = s ∙ ap (λ k. pathHeadSize + infoSize * k) (sym (edges-length given n))
 
-    pub gone-drawn : {o o′ a a′ i i′ : List ℕ} {ends : Ends} → Gone b given start x o o′ a a′ i i′ ends → Drawn b (edgesIn given n) a′ ends
-    gone-drawn {o} {o′} {a} {a′} {i} {i′} {ends} g =
-        let h : Gone b given start n o o′ a a′ i i′ ends = subst (λ k. Gone b given start k o o′ a a′ i i′ ends) all g in
+    pub walked-ends : {o o′ a a′ i i′ : List ℕ} {ends : Ends} → EdgesWalked b given start x o o′ a a′ i i′ ends → EndsOf b (edgesIn given n) a′ ends
+    walked-ends {o} {o′} {a} {a′} {i} {i′} {ends} g =
+        let h : EdgesWalked b given start n o o′ a a′ i i′ ends = subst (λ k. EdgesWalked b given start k o o′ a a′ i i′ ends) all g in
         record {
           hops-end = h .hops .end ∙ ap (λ k. k + length (flatMap (edgeBytes b Hops) (edgesIn given n))) starts;
           ases-end = h .ases .end ∙ zero-add (length (flatMap (edgeBytes b Ases) (edgesIn given n)));
@@ -146,9 +145,9 @@ module _ (b given : List ℕ) (start : ℕ) where
           expiry = h .expiry;
         }
 
-    pub gone-placed : {o o′ a a′ i i′ : List ℕ} {ends : Ends} → Gone b given start x o o′ a a′ i i′ ends → Placed b (edgesIn given n) o′ i′ ends
-    gone-placed {o} {o′} {a} {a′} {i} {i′} {ends} g =
-        let h : Gone b given start n o o′ a a′ i i′ ends = subst (λ k. Gone b given start k o o′ a a′ i i′ ends) all g in
+    pub walked-hops : {o o′ a a′ i i′ : List ℕ} {ends : Ends} → EdgesWalked b given start x o o′ a a′ i i′ ends → HopsAndIds b (edgesIn given n) o′ i′ ends
+    walked-hops {o} {o′} {a} {a′} {i} {i′} {ends} g =
+        let h : EdgesWalked b given start n o o′ a a′ i i′ ends = subst (λ k. EdgesWalked b given start k o o′ a a′ i i′ ends) all g in
         record {
           before = o;
           hops = subst (λ k. Appended o k (flatMap (edgeBytes b Hops) (edgesIn given n)) o′ (ends .hops)) starts (h .hops);

@@ -5,6 +5,6 @@ pub mod Writes
 pub mod Showing
 pub mod Walking
 pub mod Chaining
-pub mod Repeats
+pub mod Thrice
 pub mod Assembling
 pub mod Answering

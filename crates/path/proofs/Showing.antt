@@ -3,7 +3,7 @@
 use Prim.Native.Nat.{ℕ, _+_, _-_, _%_, _^_, _≤_, min}
 use native.Mathlib.Omega.{arith}
 use mathlib.Core.Path.{_≡_, refl, sym, ap, ap₂, _∙_}
-use mathlib.Core.Bool.{Bool, true, false, _&&_, _||_, not}
+use mathlib.Core.Bool.{Bool, true, false, _&&_, _||_, not, and-true, and-false}
 use mathlib.Core.List.{List, [], _∷_, _++_, flatMap, reverse, reverse-append, reverse-cons, append-nil}
 use lib.ListN.{length, take, drop}
 use lib.Dec.{eqb, ltb}
@@ -22,19 +22,11 @@ use Rattle.spec.proofs.ByteLaws.{hop-length}
 use Rattle.spec.proofs.BookLaws.{hop-good}
 use Rattle.output.specs.Write.{written}
 use Rattle.output.proofs.Writing.{octets2-length, octets8-length}
-use Rattle.path.specs.Places.{isLeft, linkOffset, Here, Wrote, Appended}
+use Rattle.path.specs.Places.{isInnerShortcut, linkOffset, StandsAt, Wrote, Appended}
 use Rattle.path.specs.Parts.{Hops, Ases, Ids, linkMtus, ingressShown, shownAs, asIf, idIf, interfacesHere, entryBytes}
 use Rattle.path.proofs.Copies.{link-copied}
 use Rattle.path.proofs.Standing.{link-hop, own-hop}
 use Rattle.path.proofs.Writes.{wrote-one, appended-as, appended-join, appended-over, appended-some}
-
-and-true : (t : Bool) → (t && true) ≡ t
-and-true true = refl
-and-true false = refl
-
-and-false : (t : Bool) → (t && false) ≡ false
-and-false true = refl
-and-false false = refl
 
 positive : (n : ℕ) → ltb 0 n ≡ not (eqb n 0)
 positive n = go (eqb n 0) refl
@@ -47,7 +39,7 @@ positive n = go (eqb n 0) refl
 
 ingress-shown : (e : Edge) (m : ℕ) (a : IsdAsn) (i : ℕ)
     → interfaceIf (not (eqb i 0) && (not (atShortcut e m) || eqb (e .shortcut) 0 || isPeerHop e m)) a i ≡ shownAs a (ingressShown e m i)
-unfolding isPeerHop isPeerEdge ingressShown isLeft
+unfolding isPeerHop isPeerEdge ingressShown isInnerShortcut
 ingress-shown e m a i = rw (positive (e .peer), positive (e .shortcut)) (go (atShortcut e m) (eqb (e .shortcut) 0) (eqb (e .peer) 0))
   where
     go : (s z p : Bool) → interfaceIf (not (eqb i 0) && (not s || z || (s && not p))) a i ≡ shownAs a (if p && (s && not z) then 0 else i)
@@ -59,17 +51,17 @@ ingress-shown e m a i = rw (positive (e .peer), positive (e .shortcut)) (go (atS
     go true false false = unfold shownAs in ap (λ t. interfaceIf t a i) (and-true (not (eqb i 0)))
 
 module _ (e : Edge) (m i : ℕ) where
-  pub hidden : e .peer ≡ 0 → isLeft e m ≡ true → 0 ≡ ingressShown e m i
+  pub ingress-hidden : e .peer ≡ 0 → isInnerShortcut e m ≡ true → 0 ≡ ingressShown e m i
   unfolding ingressShown
-  hidden p q = sym (ap₂ (λ s t. if s && t then 0 else i) (eq-eqb (e .peer) 0 p) q)
+  ingress-hidden p q = sym (ap₂ (λ s t. if s && t then 0 else i) (eq-eqb (e .peer) 0 p) q)
 
-  pub inner : e .peer ≡ 0 → isLeft e m ≡ false → i ≡ ingressShown e m i
+  pub ingress-kept : e .peer ≡ 0 → isInnerShortcut e m ≡ false → i ≡ ingressShown e m i
   unfolding ingressShown
-  inner p q = sym (ap₂ (λ s t. if s && t then 0 else i) (eq-eqb (e .peer) 0 p) q)
+  ingress-kept p q = sym (ap₂ (λ s t. if s && t then 0 else i) (eq-eqb (e .peer) 0 p) q)
 
-  pub linked : (e .peer ≡ 0 → ⊥) → i ≡ ingressShown e m i
+  pub ingress-peer : (e .peer ≡ 0 → ⊥) → i ≡ ingressShown e m i
   unfolding ingressShown
-  linked f = sym (ap (λ s. if s && isLeft e m then 0 else i) (ne-eqb (e .peer) 0 f))
+  ingress-peer f = sym (ap (λ s. if s && isInnerShortcut e m then 0 else i) (ne-eqb (e .peer) 0 f))
 
 -- a list of one or none is its own reverse
 reverse-if : (t : Bool) (a : IsdAsn) (i : ℕ) → reverse (interfaceIf t a i) ≡ interfaceIf t a i
@@ -219,25 +211,25 @@ module _ (seg : Segment) (e : Edge) (m : ℕ) where
   unfolding linkMtus least
   link-peer q r p h = rw q (omega arith)
 
-  pub link-left : isPeerHop e m ≡ false → isLeft e m ≡ true → maxMtu ≡ least maxMtu (linkMtus seg e m)
+  pub link-shortcut : isPeerHop e m ≡ false → isInnerShortcut e m ≡ true → maxMtu ≡ least maxMtu (linkMtus seg e m)
   unfolding linkMtus least
-  link-left q l = rw (q, l) (go (eqb ingressMtu 0))
+  link-shortcut q l = rw (q, l) (go (eqb ingressMtu 0))
     where
       go : (t : Bool) → maxMtu ≡ least maxMtu (if t || true then [] else ingressMtu ∷ [])
       go true = refl
       go false = refl
 
-  pub link-inner : isPeerHop e m ≡ false → isLeft e m ≡ false → (x r : ℕ) → x ≡ entryOf seg m .own .«ingress_mtu» → x ≤ maxMtu
+  pub link-regular : isPeerHop e m ≡ false → isInnerShortcut e m ≡ false → (x r : ℕ) → x ≡ entryOf seg m .own .«ingress_mtu» → x ≤ maxMtu
       → (x ≡ 0 → r ≡ maxMtu) × ((x ≡ 0 → ⊥) → r ≡ x) → r ≡ least maxMtu (linkMtus seg e m)
   unfolding linkMtus least
-  link-inner q l x r p h t = rw (q, l, sym p) (go (eqb x 0) refl)
+  link-regular q l x r p h t = rw (q, l, sym p) (go (eqb x 0) refl)
     where
       go : (s : Bool) → eqb x 0 ≡ s → r ≡ least maxMtu (if s || false then [] else x ∷ [])
       go true z = t .0 (eqb-true x 0 z)
       go false z = let f = t .1 (eqb-false x 0 z) in omega arith
 
   mtus-split : mtusAt seg e m ≡ linkMtus seg e m ++ (entryOf seg m .own .mtu % 2 ^ 16 ∷ [])
-  unfolding mtusAt linkMtus isLeft
+  unfolding mtusAt linkMtus isInnerShortcut
   mtus-split = refl
 
   pub mtus-both : (x : ℕ) → x ≤ maxMtu → min (min x (least maxMtu (linkMtus seg e m))) (entryOf seg m .own .mtu % 2 ^ 16) ≡ least x (mtusAt seg e m)
@@ -251,7 +243,7 @@ module _ (seg : Segment) (e : Edge) (m : ℕ) where
 
 -- ---- hops
 
-module _ (b : List ℕ) (bytes : Bytes b) (e : Edge) (m at : ℕ) (here : Here b e m at) (d : List ℕ) (to : ℕ) (d′ : List ℕ) where
+module _ (b : List ℕ) (bytes : Bytes b) (e : Edge) (m at : ℕ) (here : StandsAt b e m at) (d : List ℕ) (to : ℕ) (d′ : List ℕ) where
   hop-wrote : d′ ≡ written d to (hopOctets (hopOf (segmentOf b e) e m)) → Wrote d to (entryBytes b e Hops m) d′ (to + hopSize)
   unfolding entryBytes segmentOf
   hop-wrote q = wrote-one d to (hopOctets (hopOf (segmentAt b (e .position)) e m)) d′ hopSize (to + hopSize) q (hop-length _ (hop-good b bytes (e .position) e m)) refl

@@ -13,30 +13,27 @@ use Rattle.spec.specs.declared.AsEntry.{AsEntry}
 use Rattle.spec.specs.declared.PeerEntry.{PeerEntry}
 use Rattle.spec.specs.declared.Edge.{Edge}
 use Rattle.spec.specs.declared.Verdict.the-variants.{Accepted}
-use Rattle.spec.specs.Limits.{headSize, maxEntries, maxSegments}
+use Rattle.spec.specs.Limits.{sizesSize, headSize, maxEntries, maxSegments}
 use Rattle.spec.specs.Basics.{if_then_else_}
 use Rattle.spec.specs.Octets.{be16, be32}
 use Rattle.spec.specs.Book.{verdict, headOffset, timestampAt, idAt, entryCountAt, bodyOffset, entryOffset, peerCount, isdAsnAt, asEntryAt, peerEntryAt, segmentAt}
 use Rattle.spec.specs.Edges.{entryOf, asOf, peerOf}
 use Rattle.spec.specs.Assembly.{isPeerHop, isPeerEdge, atShortcut, hopOf, segmentOf}
-use Rattle.spec.proofs.Membership.{not-both}
+use Rattle.spec.proofs.Membership.{and-true}
 use Rattle.spec.proofs.BookLaws.{AcceptedBook, accepted, entry-count, segment-length}
 use Rattle.spec.proofs.BodyLaws.{entry-place, body-end, peer-place}
 use Rattle.segment.proofs.Fitting.{own-read, peers-read, peer-read, offset-small}
 use Rattle.book.proofs.Tables.{table-at}
 use Rattle.graph.specs.Leaving.{entryCount}
 use Rattle.graph.proofs.OpenedReads.{count-place, count-low}
-use Rattle.path.specs.Usable.{Ready, Usable}
-use Rattle.path.specs.Places.{isLeft, linkOffset, Link, Here, entryFrom}
-
-both-true : (s t : Bool) → (s && t) ≡ true → (s ≡ true) × (t ≡ true)
-both-true true t q = (refl, q)
-both-true false t q = not-both q refl
+use Rattle.graph.specs.Ready.{Ready}
+use Rattle.path.specs.Edges.{InBook}
+use Rattle.path.specs.Places.{isInnerShortcut, linkOffset, PeerStandsAt, StandsAt, entryFrom}
 
 peer-at : (e : Edge) (m : ℕ) → isPeerHop e m ≡ true → (m ≡ e .shortcut) × (0 < e .peer)
 unfolding isPeerHop atShortcut isPeerEdge
 peer-at e m q =
-    let p = both-true _ _ q in
+    let p = and-true _ _ q in
     (eqb-true _ _ (p .0), ltb-true _ _ (p .1))
 
 -- ---- the tests of an entry
@@ -49,17 +46,17 @@ pub peer-none : (e : Edge) (m : ℕ) → (m ≡ e .shortcut → ⊥) → false �
 unfolding isPeerHop atShortcut
 peer-none e m f = sym (ap (λ t. t && isPeerEdge e) (ne-eqb m (e .shortcut) f))
 
-pub left-test : (e : Edge) (m : ℕ) → m ≡ e .shortcut → ltb 0 (e .shortcut) ≡ isLeft e m
-unfolding isLeft atShortcut
-left-test e m q = sym (ap (λ t. t && ltb 0 (e .shortcut)) (eq-eqb m (e .shortcut) q))
+pub inner-test : (e : Edge) (m : ℕ) → m ≡ e .shortcut → ltb 0 (e .shortcut) ≡ isInnerShortcut e m
+unfolding isInnerShortcut atShortcut
+inner-test e m q = sym (ap (λ t. t && ltb 0 (e .shortcut)) (eq-eqb m (e .shortcut) q))
 
-pub left-none : (e : Edge) (m : ℕ) → (m ≡ e .shortcut → ⊥) → false ≡ isLeft e m
-unfolding isLeft atShortcut
-left-none e m f = sym (ap (λ t. t && ltb 0 (e .shortcut)) (ne-eqb m (e .shortcut) f))
+pub inner-none : (e : Edge) (m : ℕ) → (m ≡ e .shortcut → ⊥) → false ≡ isInnerShortcut e m
+unfolding isInnerShortcut atShortcut
+inner-none e m f = sym (ap (λ t. t && ltb 0 (e .shortcut)) (ne-eqb m (e .shortcut) f))
 
 -- ---- the table tells where an entry stands
 
-module _ (b : List ℕ) (a : AcceptedBook b) (e : Edge) (u : Usable b e) where
+module _ (b : List ℕ) (a : AcceptedBook b) (e : Edge) (u : InBook b e) where
   abbrev k : ℕ
   k = e .position
 
@@ -81,7 +78,7 @@ module _ (b : List ℕ) (a : AcceptedBook b) (e : Edge) (u : Usable b e) where
     inside : m < entryCountAt b k
     inside = omega (arith, count-is)
 
-    link : isPeerHop e m ≡ true → Link b e m at
+    link : isPeerHop e m ≡ true → PeerStandsAt b e m at
     unfolding segmentOf linkOffset
     link q =
         let w = peer-at e m q in
@@ -96,7 +93,7 @@ module _ (b : List ℕ) (a : AcceptedBook b) (e : Edge) (u : Usable b e) where
           room = omega (arith, peer-place b a k (u .position) m (e .peer - 1) inside few, body-end b a k (u .position));
         }
 
-    here : Here b e m at
+    here : StandsAt b e m at
     unfolding segmentOf
     here =
         record {
@@ -105,43 +102,43 @@ module _ (b : List ℕ) (a : AcceptedBook b) (e : Edge) (u : Usable b e) where
           link = link;
         }
 
-pub stands : (b offsets : List ℕ) → Ready b offsets → (e : Edge) → Usable b e → (m : ℕ) → m < length (segmentOf b e .entries)
-    → Here b e m (getD offsets (maxEntries * e .position + m) 0) × (getD offsets (maxEntries * e .position + m) 0 < 2 ^ 16)
+pub stands : (b offsets : List ℕ) → Ready b offsets → (e : Edge) → InBook b e → (m : ℕ) → m < length (segmentOf b e .entries)
+    → StandsAt b e m (getD offsets (maxEntries * e .position + m) 0) × (getD offsets (maxEntries * e .position + m) 0 < 2 ^ 16)
 stands b offsets r e u m h =
     let a : AcceptedBook b = accepted b (r .ok) in
     let i : m < entryCountAt b (e .position) = inside b a e u m h in
     let t : getD offsets (maxEntries * e .position + m) 0 ≡ entryOffset b (bodyOffset b (e .position)) m =
     ap (λ l. getD l (maxEntries * e .position + m) 0) (r .table) ∙ table-at b a (e .position) m (u .position) i in
-    (subst (Here b e m) (sym t) (here b a e u m h), omega (arith, offset-small b a (e .position) (u .position) m i))
+    (subst (StandsAt b e m) (sym t) (here b a e u m h), omega (arith, offset-small b a (e .position) (u .position) m i))
 
 -- in an accepted book the count of entries is its low byte
-module _ (b : List ℕ) (ok : verdict b ≡ Accepted) (e : Edge) (u : Usable b e) where
-  pub count-within : 15 + headSize * e .position < length b
+module _ (b : List ℕ) (ok : verdict b ≡ Accepted) (e : Edge) (u : InBook b e) where
+  pub count-within : sizesSize + 7 + headSize * e .position < length b
   count-within = count-place b ok (e .position) (u .position)
 
-  pub count-byte : getD b (15 + headSize * e .position) 0 ≡ length (segmentOf b e .entries)
+  pub count-byte : getD b (sizesSize + 7 + headSize * e .position) 0 ≡ length (segmentOf b e .entries)
   unfolding segmentOf entryCount
   count-byte = count-low b ok (e .position) (u .position)
 
-  pub count-few : getD b (15 + headSize * e .position) 0 ≤ maxEntries
+  pub count-few : getD b (sizesSize + 7 + headSize * e .position) 0 ≤ maxEntries
   count-few = omega (arith, count-byte, count-most b (accepted b ok) e u)
 
-  pub time-within : 8 + headSize * e .position + 4 ≤ length b
+  pub time-within : sizesSize + headSize * e .position + 4 ≤ length b
   time-within = omega (arith, count-within)
 
-  pub id-within : 12 + headSize * e .position + 2 ≤ length b
+  pub id-within : sizesSize + 4 + headSize * e .position + 2 ≤ length b
   id-within = omega (arith, count-within)
 
 -- what a head says
 module _ (b : List ℕ) (e : Edge) where
-  pub time-read : be32 b (8 + headSize * e .position) ≡ segmentOf b e .timestamp
+  pub time-read : be32 b (sizesSize + headSize * e .position) ≡ segmentOf b e .timestamp
   unfolding segmentOf segmentAt timestampAt headOffset
   time-read = refl
 
-  pub id-read : be16 b (12 + headSize * e .position) ≡ segmentOf b e .id
+  pub id-read : be16 b (sizesSize + 4 + headSize * e .position) ≡ segmentOf b e .id
   unfolding segmentOf segmentAt idAt headOffset
   id-read =
-      let p : 12 + headSize * e .position ≡ 8 + headSize * e .position + 4 = omega arith in
+      let p : sizesSize + 4 + headSize * e .position ≡ sizesSize + headSize * e .position + 4 = omega arith in
       ap (be16 b) p
 
 -- the entry of a hop
@@ -158,7 +155,7 @@ from-against e n j q = sym (ap (λ (t : Bool). if t then e .shortcut + j else n 
 
 -- ---- what is read there
 
-module _ (b : List ℕ) (e : Edge) (m at : ℕ) (here : Here b e m at) where
+module _ (b : List ℕ) (e : Edge) (m at : ℕ) (here : StandsAt b e m at) where
   pub local-read : isdAsnAt b at ≡ asOf (segmentOf b e) m
   unfolding asOf asEntryAt
   local-read = sym (ap (λ (x : AsEntry). x .local) (here .own))

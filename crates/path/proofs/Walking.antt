@@ -1,56 +1,37 @@
 -- The walks over an edge's hops: their turns, and what they end in.
 -- Assumes nothing.
-use Prim.Native.Nat.{ℕ, _+_, _-_, _/_, _%_, _^_, _≤_, _<_, min}
-use native.Mathlib.Nat.{zero-add, add-zero}
-use native.Mathlib.Numerals.{add-one}
+use Prim.Native.Nat.{ℕ, _+_, _-_, _≤_, _<_, min}
+use native.Mathlib.Nat.{add-zero}
 use native.Mathlib.Omega.{arith}
 use mathlib.Core.Path.{_≡_, refl, sym, ap, ap₂, _∙_}
 use mathlib.Core.Bool.{Bool, true, false, _&&_}
-use mathlib.Core.List.{List, [], _∷_, _++_, map, flatMap, reverse, reverse-cons, reverse-append, reverse-reverse, append-nil}
+use mathlib.Core.List.{List, [], _∷_, _++_, map, flatMap, reverse, reverse-cons, reverse-append, reverse-reverse}
 use lib.ListN.{length, take, drop}
-use lib.Dec.{eqb}
+use lib.Seq.{take-all}
+use lib.Dec.{eqb, ltb}
 use borrow.Author.Tests.{eqb-true, eq-eqb}
 use Rattle.spec.specs.declared.HopField.{HopField}
+use Rattle.spec.specs.declared.InfoField.{InfoField}
 use Rattle.spec.specs.declared.AsEntry.{AsEntry}
 use Rattle.spec.specs.declared.Edge.{Edge}
 use Rattle.spec.specs.Limits.{infoSize, maxTime}
 use Rattle.spec.specs.Basics.{if_then_else_, range}
-use Rattle.spec.specs.Octets.{octets2, octets4}
 use Rattle.spec.specs.Book.{Segment, macAt, asEntryAt}
 use Rattle.spec.specs.Assembly.{least, unitsOf, life, mtusAt, hopOf, hopCount, usedEntries, interfacesAt, inDirection, hopsOf, interfacesOf, mtusOf, infoOf, expiryOf, segmentOf, hopsOn, interfacesOn, mtusOn, infoOn, expiryOn, isPeerHop, isPeerEdge, atShortcut, foldStep, foldMacs, idBelow, stopAt}
 use Rattle.spec.specs.Records.{hopOctets, infoOctets, interfaceAsOctets, interfaceIdOctets}
 use Rattle.spec.proofs.Membership.{not-both}
-use Rattle.spec.proofs.Lists.{map-append, map-reverse, range-suc, range-up, range-down, flatMap-append}
+use Rattle.spec.proofs.Lists.{map-append, map-reverse, map-range-last, range-up, range-down, flatMap-append, flat-one, flat-map, flat-flat}
 use Rattle.spec.proofs.ByteLaws.{info-length}
 use Rattle.spec.proofs.RouterLaws.{idBelow-next}
 use Rattle.output.specs.Write.{written}
-use Rattle.path.specs.Usable.{Usable}
+use Rattle.path.specs.Edges.{InBook}
 use Rattle.path.specs.declared.entry.Walk.{Walk}
-use Rattle.path.specs.Places.{Here, Wrote, entryFrom, passed}
-use Rattle.path.specs.Parts.{Part, Hops, Ases, Ids, infoBytes, interfacesHere, entryBytes, edgeBytes, walked, walkedUnits, walkedMtus, stopFrom, flagsOf, Walked, EntryWalked, EdgeWalked}
+use Rattle.path.specs.Places.{StandsAt, Wrote, entryFrom, passed}
+use Rattle.path.specs.Parts.{Part, Hops, Ases, Ids, infoBytes, interfacesHere, entryBytes, edgeBytes, walked, walkedUnits, walkedMtus, stopFrom, Walked, EntryWalked, EdgeWalked}
 use Rattle.path.proofs.Writes.{wrote-one, appended-none, appended-join, appended-as}
 use Rattle.path.proofs.Showing.{least-append, least-reverse}
 
 -- ---- lists
-
-pub range-more : {A : Type 0} (f : ℕ → A) (j : ℕ) → map f (range 0 (j + 1)) ≡ map f (range 0 j) ++ (f j ∷ [])
-range-more f j =
-    ap (λ n. map f (range 0 n)) (add-one j) ∙ ap (map f) (range-suc 0 j) ∙ map-append f (range 0 j) ((0 + j) ∷ [])
-    ∙ ap (λ i. map f (range 0 j) ++ (f i ∷ [])) (zero-add j)
-
-pub flat-one : {A B : Type 0} (f : A → List B) (x : A) → flatMap f (x ∷ []) ≡ f x
-unfolding flatMap
-flat-one f x = append-nil (f x)
-
-pub flat-map : {A B C : Type 0} (f : A → B) (g : B → List C) (xs : List A) → flatMap g (map f xs) ≡ flatMap (λ x. g (f x)) xs
-unfolding flatMap
-flat-map f g [] = refl
-flat-map f g (x ∷ xs) = ap (λ l. g (f x) ++ l) (flat-map f g xs)
-
-pub flat-flat : {A B C : Type 0} (f : A → List B) (g : B → List C) (xs : List A) → flatMap g (flatMap f xs) ≡ flatMap (λ x. flatMap g (f x)) xs
-unfolding flatMap
-flat-flat f g [] = refl
-flat-flat f g (x ∷ xs) = flatMap-append g (f x) (flatMap f xs) ∙ ap (λ l. flatMap g (f x) ++ l) (flat-flat f g xs)
 
 flat-reverse : {A B : Type 0} (f : A → List B) (xs : List A) → reverse (flatMap f xs) ≡ flatMap (λ x. reverse (f x)) (reverse xs)
 unfolding flatMap
@@ -82,9 +63,9 @@ module _ (b : List ℕ) (e : Edge) where
 
   passed-more : (j : ℕ) → passed b e (j + 1) ≡ passed b e j ++ (entryFrom e n j ∷ [])
   unfolding passed
-  passed-more j = range-more (entryFrom e (length (segmentOf b e .entries))) j
+  passed-more j = map-range-last (entryFrom e (length (segmentOf b e .entries))) j
 
-  module _ (u : Usable b e) where
+  module _ (u : InBook b e) where
     used-entries : passed b e (hopCount seg e) ≡ inDirection (e .construction) (usedEntries seg e)
     unfolding passed entryFrom
     used-entries = go (e .construction)
@@ -176,7 +157,7 @@ module _ (b : List ℕ) (e : Edge) where
             ∙ sym (least-append (w .units) (walkedUnits b e j) (unitsOf (hopOf (segmentOf b e) e m) ∷ [])) ∙ ap (least (w .units)) (units-more j m q);
       }
 
-  module _ (u : Usable b e) where
+  module _ (u : InBook b e) where
     least-mtus : (x : ℕ) → least x (walkedMtus b e (hopCount (segmentOf b e) e)) ≡ least x (mtusOn b e)
     unfolding walkedMtus mtusOn mtusOf
     least-mtus x =
@@ -222,7 +203,7 @@ module _ (b : List ℕ) (e : Edge) where
   unfolding idBelow foldMacs
   id-none x q = q
 
-  pub id-more : (i at x : ℕ) → Here b e i at → i < length (segmentOf b e .entries) → x ≡ idBelow (segmentOf b e) i → foldStep x (macAt b (at + 19)) ≡ idBelow (segmentOf b e) (i + 1)
+  pub id-more : (i at x : ℕ) → StandsAt b e i at → i < length (segmentOf b e .entries) → x ≡ idBelow (segmentOf b e) i → foldStep x (macAt b (at + 19)) ≡ idBelow (segmentOf b e) (i + 1)
   unfolding asEntryAt
   id-more i at x here h q =
       ap₂ foldStep q (sym (ap (λ (a : AsEntry). a .hop .mac) (here .own))) ∙ idBelow-next (segmentOf b e) i h
@@ -268,34 +249,16 @@ stop-all b e n k s i p q r h = h ∙ r ∙ ap (stopFrom e) q ∙ stop-is b e n p
 
 -- ---- an info
 
-two-bytes : (i : ℕ) → i < 2 ^ 16 → i / 256 ∷ i % 256 ∷ [] ≡ octets2 i
-unfolding octets2
-two-bytes i h =
-    let e : i / 256 ≡ i / 2 ^ 8 % 2 ^ 8 = omega arith in
-    ap (λ x. x ∷ i % 256 ∷ []) e
+pub info-is : (b : List ℕ) (e : Edge) (h i t : ℕ) → h ≡ hopCount (segmentOf b e) e → i ≡ idBelow (segmentOf b e) (stopAt (segmentOf b e) e) → t ≡ segmentOf b e .timestamp
+    → record { construction = e .construction; peering = ltb 0 (e .peer); hops = h; id = i; timestamp = t } ≡ infoOn b e
+unfolding infoOn infoOf isPeerEdge
+info-is b e h i t p q r = λ k. record { construction = e .construction; peering = ltb 0 (e .peer); hops = p k; id = q k; timestamp = r k }
 
-four-bytes : (t : ℕ) → t < 2 ^ 32 → t / 16777216 ∷ t / 65536 % 256 ∷ t / 256 % 256 ∷ t % 256 ∷ [] ≡ octets4 t
-unfolding octets4 octets2
-four-bytes t h =
-    let p : t / 16777216 ≡ t / 2 ^ 16 / 2 ^ 8 % 2 ^ 8 = omega arith in
-    let q : t / 256 % 256 ≡ t % 2 ^ 16 / 2 ^ 8 % 2 ^ 8 = omega arith in
-    let r : t % 256 ≡ t % 2 ^ 16 % 2 ^ 8 = omega arith in
-    ap₂ (λ x y. x ∷ t / 65536 % 256 ∷ y) p (ap₂ (λ x y. x ∷ y ∷ []) q r)
-
--- the fields of an info, copied from a local one
-pub fields-copied : (d : List ℕ) (at f h i t : ℕ) (d′ : List ℕ) → i < 2 ^ 16 → t < 2 ^ 32
-    → d′ ≡ written d at (take infoSize (drop 0 (f ∷ h ∷ i / 256 ∷ i % 256 ∷ t / 16777216 ∷ t / 65536 % 256 ∷ t / 256 % 256 ∷ t % 256 ∷ [])))
-    → d′ ≡ written d at ((f ∷ h ∷ []) ++ octets2 i ++ octets4 t)
-fields-copied d at f h i t d′ p q e = e ∙ ap₂ (λ x y. written d at ((f ∷ h ∷ []) ++ x ++ y)) (two-bytes i p) (four-bytes t q)
-
-pub info-wrote : (b : List ℕ) (e : Edge) (d : List ℕ) (at : ℕ) (d′ : List ℕ) (f h i t : ℕ)
-    → d′ ≡ written d at ((f ∷ h ∷ []) ++ octets2 i ++ octets4 t)
-    → f ≡ flagsOf e → h ≡ hopCount (segmentOf b e) e → i ≡ idBelow (segmentOf b e) (stopAt (segmentOf b e) e) → t ≡ segmentOf b e .timestamp
-    → Wrote d at (infoBytes b e) d′ (at + infoSize)
-unfolding infoBytes infoOn infoOf infoOctets flagsOf
-info-wrote b e d at d′ f h i t q qf qh qi qt =
+pub info-wrote : (b : List ℕ) (e : Edge) (i : InfoField) (r d : List ℕ) (at : ℕ) (d′ : List ℕ)
+    → i ≡ infoOn b e → r ≡ infoOctets i → d′ ≡ written d at (take infoSize (drop 0 r)) → Wrote d at (infoBytes b e) d′ (at + infoSize)
+unfolding infoBytes
+info-wrote b e i r d at d′ p q w =
     wrote-one d at (infoOctets (infoOn b e)) d′ infoSize (at + infoSize)
-    (q
-    ∙ ap₂ (λ x y. written d at ((x ∷ y ∷ []) ++ octets2 i ++ octets4 t)) qf qh
-    ∙ ap₂ (λ x y. written d at ((flagsOf e ∷ hopCount (segmentOf b e) e ∷ []) ++ octets2 x ++ octets4 y)) qi qt)
+    (w ∙ ap (λ l. written d at (take infoSize l)) (q ∙ ap infoOctets p)
+    ∙ ap (written d at) (take-all infoSize (infoOctets (infoOn b e)) (omega (arith, info-length (infoOn b e)))))
     (info-length (infoOn b e)) refl

@@ -1,4 +1,5 @@
-pub mod Usable
+pub mod Edges
 pub mod Places
 pub mod Parts
+pub mod Thrice
 pub mod Whole

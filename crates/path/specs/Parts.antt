@@ -1,6 +1,6 @@
 -- What a path's record holds of an entry, of an edge and of a chain.
 -- Assumes nothing.
-use Prim.Native.Nat.{ℕ, _+_, _-_, _*_}
+use Prim.Native.Nat.{ℕ, _+_, _-_}
 use mathlib.Core.Path.{_≡_}
 use mathlib.Core.Bool.{_&&_, _||_, not}
 use mathlib.Core.List.{List, [], _∷_, map, flatMap}
@@ -13,9 +13,9 @@ use Rattle.spec.specs.Octets.{octets2}
 use Rattle.spec.specs.Book.{Segment}
 use Rattle.spec.specs.Edges.{entryOf, peerOf}
 use Rattle.path.specs.declared.entry.Walk.{Walk}
-use Rattle.path.specs.Places.{isLeft, passed, Appended}
-use Rattle.spec.specs.Assembly.{least, unitsOf, mtusAt, isPeerEdge, isPeerHop, interfaceIf, interfacesAt, inDirection, hopOf, segmentOf, infoOn, hopsOn, interfacesOn, mtusOn}
-use Rattle.spec.specs.Records.{bit, infoOctets, hopOctets, asOctets, interfaceAsOctets, interfaceIdOctets}
+use Rattle.path.specs.Places.{isInnerShortcut, passed, Appended}
+use Rattle.spec.specs.Assembly.{least, unitsOf, mtusAt, isPeerHop, interfaceIf, interfacesAt, inDirection, hopOf, segmentOf, infoOn, hopsOn, interfacesOn, mtusOn}
+use Rattle.spec.specs.Records.{infoOctets, hopOctets, asOctets, interfaceAsOctets, interfaceIdOctets}
 
 -- the parts of a path's record that go by entries
 pub data Part : Type 0 where
@@ -27,12 +27,12 @@ pub data Part : Type 0 where
 unfoldable pub linkMtus : Segment → Edge → ℕ → List ℕ
 linkMtus seg e m =
     if isPeerHop e m then peerOf seg m (e .peer - 1) .mtu ∷ []
-    else if eqb (entryOf seg m .own .«ingress_mtu») 0 || isLeft e m then []
+    else if eqb (entryOf seg m .own .«ingress_mtu») 0 || isInnerShortcut e m then []
     else entryOf seg m .own .«ingress_mtu» ∷ []
 
--- where the path leaves the segment with no peer, no ingress is shown
+-- at an inner shortcut without a peer no ingress is shown
 unfoldable pub ingressShown : Edge → ℕ → ℕ → ℕ
-ingressShown e m ingress = if eqb (e .peer) 0 && isLeft e m then 0 else ingress
+ingressShown e m ingress = if eqb (e .peer) 0 && isInnerShortcut e m then 0 else ingress
 
 -- an interface is shown where its id is not 0
 unfoldable pub shownAs : IsdAsn → ℕ → List PathInterface
@@ -68,9 +68,6 @@ module _ (b : List ℕ) (e : Edge) where
 -- where the fold of the segment id stops: below the first hop's entry k, or past it where its hop is a peer's
 unfoldable pub stopFrom : Edge → ℕ → ℕ
 stopFrom e k = if isPeerHop e k then k + 1 else k
-
-unfoldable pub flagsOf : Edge → ℕ
-flagsOf e = bit (e .construction) + 2 * bit (isPeerEdge e)
 
 unfoldable pub infoBytes : List ℕ → Edge → List ℕ
 infoBytes b e = infoOctets (infoOn b e)

@@ -1,6 +1,6 @@
 -- Where an entry of an edge stands in the book, and what a write leaves.
 -- Assumes nothing.
-use Prim.Native.Nat.{ℕ, _+_, _-_, _<_, _≤_}
+use Prim.Native.Nat.{ℕ, _+_, _-_, _*_, _<_, _≤_}
 use mathlib.Core.Path.{_≡_}
 use mathlib.Core.Bool.{Bool, true, _&&_}
 use mathlib.Core.List.{List, _++_, map}
@@ -14,24 +14,37 @@ use Rattle.spec.specs.Edges.{entryOf, peerOf}
 use Rattle.spec.specs.Assembly.{atShortcut, isPeerHop, segmentOf}
 use Rattle.output.specs.Write.{written}
 
--- entry m is the shortcut, above the segment's first entry: there the path leaves the segment, or comes to it
-unfoldable pub isLeft : Edge → ℕ → Bool
-isLeft e m = atShortcut e m && ltb 0 (e .shortcut)
+-- the bytes of an interface's AS and of its id, and the most of an entry's, which shows two interfaces
+abbrev pub asSize : ℕ
+asSize = 8
+
+abbrev pub idSize : ℕ
+idSize = 2
+
+abbrev pub entryAses : ℕ
+entryAses = 2 * asSize
+
+abbrev pub entryIds : ℕ
+entryIds = 2 * idSize
+
+-- entry m is the shortcut, above the segment's first entry: the path leaves the segment there, or joins it
+unfoldable pub isInnerShortcut : Edge → ℕ → Bool
+isInnerShortcut e m = atShortcut e m && ltb 0 (e .shortcut)
 
 -- the edge's peer, where its entry stands at an offset
 unfoldable pub linkOffset : Edge → ℕ → ℕ
 linkOffset e at = peerOffset at (e .peer - 1)
 
-pub record Link (b : List ℕ) (e : Edge) (m at : ℕ) : Type 0 where
+pub record PeerStandsAt (b : List ℕ) (e : Edge) (m at : ℕ) : Type 0 where
   pub some : 0 < e .peer
   pub peer : peerOf (segmentOf b e) m (e .peer - 1) ≡ peerEntryAt b (linkOffset e at)
   pub room : linkOffset e at + peerSize ≤ length b
 
 -- entry m of the edge's segment stands at an offset
-pub record Here (b : List ℕ) (e : Edge) (m at : ℕ) : Type 0 where
+pub record StandsAt (b : List ℕ) (e : Edge) (m at : ℕ) : Type 0 where
   pub own : entryOf (segmentOf b e) m .own ≡ asEntryAt b at
   pub room : at + entrySize ≤ length b
-  pub link : isPeerHop e m ≡ true → Link b e m at
+  pub link : isPeerHop e m ≡ true → PeerStandsAt b e m at
 
 -- the entry of hop j, of n entries
 unfoldable pub entryFrom : Edge → ℕ → ℕ → ℕ

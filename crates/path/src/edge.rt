@@ -1,35 +1,32 @@
 // What a path holds of one edge: a walk over its hops in the path's order.
 ghost use mathlib.Core.Path.{_≡_};
-ghost use mathlib.Core.List.{[], _∷_, _++_, map};
+ghost use mathlib.Core.List.{map};
 ghost use Prim.Native.Nat.{_+_, _*_, _≤_, _<_};
 ghost use lib.ListN.{length};
 ghost use Rattle.spec.specs.Limits.{maxEntries, infoSize, hopSize};
-ghost use Rattle.spec.specs.Octets.{octets2, octets4};
 ghost use Rattle.spec.specs.declared.Verdict.the-variants.{Accepted};
 ghost use Rattle.spec.specs.Book.{verdict};
-ghost use Rattle.spec.specs.Assembly.{least, unitsOf, hopsOn, expiryOn, idBelow, stopAt, segmentOf};
-ghost use Rattle.spec.specs.Records.{bit};
-ghost use Rattle.output.specs.Write.{written};
-ghost use Rattle.path.specs.Usable.{Ready, edgeBy, Usable};
-ghost use Rattle.path.specs.Places.{Wrote};
-ghost use Rattle.path.specs.Parts.{infoBytes, stopFrom, flagsOf, EdgeWalked};
+ghost use Rattle.spec.specs.Assembly.{least, unitsOf, infoOn, hopsOn, expiryOn, idBelow, stopAt, segmentOf};
+ghost use Rattle.graph.specs.Ready.{Ready};
+ghost use Rattle.path.specs.Edges.{edgeBy, InBook};
+ghost use Rattle.path.specs.Places.{Wrote, entryAses, entryIds};
+ghost use Rattle.path.specs.Parts.{infoBytes, stopFrom, EdgeWalked};
 use crate::entry;
 use crate::entry::Walk;
 use crate::places;
 use crate::within;
+use book::PLACES;
+use spec::InfoField;
 use spec::SolutionEdge;
 
-// The bytes of an info in a path.
-pub const INFO: usize = 8;
-
 // The last second that a path can say.
-pub const LAST: u32 = 4294967295;
+pub const MAX_TIME: u32 = 4294967295;
 
 // ---- hops
 
 pub(crate) fn put_edge(
     book: &[u8],
-    table: &[u16; places::PLACES],
+    table: &[u16; PLACES],
     e: SolutionEdge,
     start: Walk,
     out: &mut [u8],
@@ -37,10 +34,10 @@ pub(crate) fn put_edge(
     ids: &mut [u8],
 ) -> Walk
     requires { ⌜ Ready (now book) (now table) ⌝ }
-    requires { ⌜ Usable (now book) (edgeBy e) ⌝ }
-    requires { ⌜ (start .hops + hopSize * maxEntries ≤ length (now out)) × (start .ases + 16 * maxEntries ≤ length (now ases)) × (start .ids + 4 * maxEntries ≤ length (now ids)) ⌝ }
+    requires { ⌜ InBook (now book) (edgeBy e) ⌝ }
+    requires { ⌜ (start .hops + hopSize * maxEntries ≤ length (now out)) × (start .ases + entryAses * maxEntries ≤ length (now ases)) × (start .ids + entryIds * maxEntries ≤ length (now ids)) ⌝ }
     ensures { λ r. ⌜ EdgeWalked (now (book .entry)) (edgeBy e) (now (out .entry)) (now (out .exit)) (now (ases .entry)) (now (ases .exit)) (now (ids .entry)) (now (ids .exit)) start r ⌝ }
-    ensures { λ r. ⌜ (r .hops ≤ start .hops + hopSize * maxEntries) × (r .ases ≤ start .ases + 16 * maxEntries) × (r .ids ≤ start .ids + 4 * maxEntries) ⌝ }
+    ensures { λ r. ⌜ (r .hops ≤ start .hops + hopSize * maxEntries) × (r .ases ≤ start .ases + entryAses * maxEntries) × (r .ids ≤ start .ids + entryIds * maxEntries) ⌝ }
 {
     let n = places::entry_count(book, e);
     let hops = n - (e.shortcut as usize);
@@ -68,14 +65,14 @@ pub(crate) fn put_edge(
 // The end of an edge whose hops have so many units or more.
 pub(crate) fn expiry(book: &[u8], e: SolutionEdge, units: u8) -> u32
     requires { ⌜ verdict (now book) ≡ Accepted ⌝ }
-    requires { ⌜ Usable (now book) (edgeBy e) ⌝ }
+    requires { ⌜ InBook (now book) (edgeBy e) ⌝ }
     requires { ⌜ units ≡ least 255 (map unitsOf (hopsOn (now book) (edgeBy e))) ⌝ }
     ensures { λ r. ⌜ r ≡ expiryOn (now (book .entry)) (edgeBy e) ⌝ }
 {
     let start = places::timestamp(book, e);
     let life = standard::types::exp_time_to_duration(units);
-    if LAST - start < life {
-        return LAST;
+    if MAX_TIME - start < life {
+        return MAX_TIME;
     }
     start + life
 }
@@ -94,9 +91,9 @@ fn stop_from(e: SolutionEdge, k: usize) -> usize
 }
 
 // The segment's id, with the MACs of the entries before the first hop folded in.
-fn segment_id(book: &[u8], table: &[u16; places::PLACES], e: SolutionEdge) -> u16
+fn segment_id(book: &[u8], table: &[u16; PLACES], e: SolutionEdge) -> u16
     requires { ⌜ Ready (now book) (now table) ⌝ }
-    requires { ⌜ Usable (now book) (edgeBy e) ⌝ }
+    requires { ⌜ InBook (now book) (edgeBy e) ⌝ }
     ensures { λ r. ⌜ r ≡ idBelow (segmentOf (now (book .entry)) (edgeBy e)) (stopAt (segmentOf (now (book .entry)) (edgeBy e)) (edgeBy e)) ⌝ }
 {
     let n = places::entry_count(book, e);
@@ -111,52 +108,37 @@ fn segment_id(book: &[u8], table: &[u16; places::PLACES], e: SolutionEdge) -> u1
     id
 }
 
-fn bit(t: bool) -> u8
-    ensures { λ r. ⌜ (r ≡ bit t) × (r ≤ 1) ⌝ }
-{
-    if t { 1 } else { 0 }
-}
-
-fn flags(e: SolutionEdge) -> u8
-    ensures { λ r. ⌜ r ≡ flagsOf (edgeBy e) ⌝ }
-{
-    bit(e.construction) + 2 * bit(0 < e.peer)
-}
-
-// The fields are put together in a local info, which the compiler moves as a whole.
-fn put_fields(out: &mut [u8], at: usize, flags: u8, hops: u8, id: u16, timestamp: u32)
-    requires { ⌜ at + infoSize ≤ length (now out) ⌝ }
-    ensures { λ _. ⌜ now (out .exit) ≡ written (now (out .entry)) at ((flags ∷ hops ∷ []) ++ octets2 id ++ octets4 timestamp) ⌝ }
-{
-    let r = [
-        flags,
-        hops,
-        (id / 256) as u8,
-        (id % 256) as u8,
-        (timestamp / 16777216) as u8,
-        (timestamp / 65536 % 256) as u8,
-        (timestamp / 256 % 256) as u8,
-        (timestamp % 256) as u8,
-    ];
-    within::copy(&r, 0, out, at, INFO);
-}
-
-pub(crate) fn put_info(
-    book: &[u8],
-    table: &[u16; places::PLACES],
-    e: SolutionEdge,
-    out: &mut [u8],
-    at: usize,
-) -> usize
+fn info(book: &[u8], table: &[u16; PLACES], e: SolutionEdge) -> InfoField
     requires { ⌜ Ready (now book) (now table) ⌝ }
-    requires { ⌜ Usable (now book) (edgeBy e) ⌝ }
-    requires { ⌜ at + infoSize ≤ length (now out) ⌝ }
-    ensures { λ r. ⌜ Wrote (now (out .entry)) at (infoBytes (now (book .entry)) (edgeBy e)) (now (out .exit)) r × (r ≡ at + infoSize) ⌝ }
+    requires { ⌜ InBook (now book) (edgeBy e) ⌝ }
+    ensures { λ r. ⌜ r ≡ infoOn (now (book .entry)) (edgeBy e) ⌝ }
 {
     let n = places::entry_count(book, e);
     let hops = n - (e.shortcut as usize);
     let id = segment_id(book, table, e);
     let timestamp = places::timestamp(book, e);
-    put_fields(out, at, flags(e), hops as u8, id, timestamp);
-    at + INFO
+    InfoField {
+        construction: e.construction,
+        peering: 0 < e.peer,
+        hops: hops as u8,
+        id: id,
+        timestamp: timestamp,
+    }
+}
+
+pub(crate) fn put_info(
+    book: &[u8],
+    table: &[u16; PLACES],
+    e: SolutionEdge,
+    out: &mut [u8],
+    at: usize,
+) -> usize
+    requires { ⌜ Ready (now book) (now table) ⌝ }
+    requires { ⌜ InBook (now book) (edgeBy e) ⌝ }
+    requires { ⌜ at + infoSize ≤ length (now out) ⌝ }
+    ensures { λ r. ⌜ Wrote (now (out .entry)) at (infoBytes (now (book .entry)) (edgeBy e)) (now (out .exit)) r × (r ≡ at + infoSize) ⌝ }
+{
+    let r = records::info_octets(info(book, table, e));
+    within::copy(&r, 0, out, at, InfoField::SIZE);
+    at + InfoField::SIZE
 }

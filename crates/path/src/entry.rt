@@ -10,15 +10,16 @@ ghost use Rattle.spec.specs.Edges.{asOf};
 ghost use Rattle.output.specs.Write.{written};
 ghost use Rattle.spec.specs.Assembly.{least, mtusAt, hopOf, segmentOf};
 ghost use Rattle.spec.specs.Records.{hopOctets};
-ghost use Rattle.path.specs.Usable.{edgeBy};
-ghost use Rattle.path.specs.Places.{Here, Wrote, Appended};
+ghost use Rattle.path.specs.Edges.{edgeBy};
+ghost use Rattle.path.specs.Places.{asSize, idSize, entryAses, entryIds, StandsAt, Wrote, Appended};
 ghost use Rattle.path.specs.Parts.{Hops, linkMtus, ingressShown, shownAs, asIf, idIf, interfacesHere, entryBytes, EntryWalked};
 use crate::places;
 use crate::within;
+use spec::AsEntry;
+use spec::HopField;
+use spec::PathInterface;
+use spec::PeerEntry;
 use spec::SolutionEdge;
-
-// The bytes of a hop in a path.
-pub const HOP: usize = 11;
 
 // The ids of the interfaces at an entry, in the path's order; 0 where one is not shown.
 pub(crate) struct ShownIds {
@@ -29,27 +30,27 @@ pub(crate) struct ShownIds {
 // ---- hops
 
 fn units_at(book: &[u8], e: SolutionEdge, m: usize, at: usize) -> u8
-    requires { ⌜ Here (now book) (edgeBy e) m at ⌝ }
+    requires { ⌜ StandsAt (now book) (edgeBy e) m at ⌝ }
     requires { ⌜ at < 2 ^ 16 ⌝ }
     ensures { λ r. ⌜ r ≡ hopOf (segmentOf (now (book .entry)) (edgeBy e)) (edgeBy e) m .units ⌝ }
 {
     if places::is_peer_hop(e, m) {
         let link = places::link_offset(e, at);
-        return book[link + 12];
+        return book[link + PeerEntry::HOP];
     }
-    book[at + 18]
+    book[at + AsEntry::UNITS]
 }
 
 // Where the two interface ids of the hop at entry m stand, ingress before egress.
 fn ids_offset(book: &[u8], e: SolutionEdge, m: usize, at: usize) -> usize
-    requires { ⌜ Here (now book) (edgeBy e) m at ⌝ }
+    requires { ⌜ StandsAt (now book) (edgeBy e) m at ⌝ }
     requires { ⌜ at < 2 ^ 16 ⌝ }
     ensures { λ r. ⌜ (be16 (now (book .entry)) r ≡ hopOf (segmentOf (now (book .entry)) (edgeBy e)) (edgeBy e) m .ingress) × (be16 (now (book .entry)) (r + 2) ≡ hopOf (segmentOf (now (book .entry)) (edgeBy e)) (edgeBy e) m .egress) × (r + 4 ≤ length (now (book .entry))) ⌝ }
 {
     if places::is_peer_hop(e, m) {
-        return places::link_offset(e, at) + 13;
+        return places::link_offset(e, at) + PeerEntry::INGRESS;
     }
-    at + 14
+    at + AsEntry::INGRESS
 }
 
 // An entry's own hop: in the book its units stand after the interfaces. It is put together in a local one, which the compiler moves as a whole.
@@ -59,11 +60,11 @@ fn put_own_hop(book: &[u8], at: usize, out: &mut [u8], to: usize)
     requires { ⌜ to + hopSize ≤ length (now out) ⌝ }
     ensures { λ _. ⌜ now (out .exit) ≡ written (now (out .entry)) to (hopOctets (asEntryAt (now (book .entry)) at .hop)) ⌝ }
 {
-    let mut r = [0u8; HOP];
-    r[0] = book[at + 18];
-    within::copy(book, at + 14, &mut r, 1, 4);
-    within::copy(book, at + 19, &mut r, 5, 6);
-    within::copy(&r, 0, out, to, HOP);
+    let mut r = [0u8; HopField::SIZE];
+    r[0] = book[at + AsEntry::UNITS];
+    within::copy(book, at + AsEntry::INGRESS, &mut r, 1, 4);
+    within::copy(book, at + AsEntry::MAC, &mut r, 5, HopField::MAC);
+    within::copy(&r, 0, out, to, HopField::SIZE);
 }
 
 // A peer's hop stands in the book as in a path; it too goes by way of a local one.
@@ -71,34 +72,34 @@ fn put_peer_hop(book: &[u8], from: usize, out: &mut [u8], to: usize)
     requires { ⌜ (from + hopSize ≤ length (now book)) × (to + hopSize ≤ length (now out)) ⌝ }
     ensures { λ _. ⌜ now (out .exit) ≡ written (now (out .entry)) to (take hopSize (drop from (now (book .entry)))) ⌝ }
 {
-    let mut r = [0u8; HOP];
-    within::copy(book, from, &mut r, 0, HOP);
-    within::copy(&r, 0, out, to, HOP);
+    let mut r = [0u8; HopField::SIZE];
+    within::copy(book, from, &mut r, 0, HopField::SIZE);
+    within::copy(&r, 0, out, to, HopField::SIZE);
 }
 
 fn put_hop(book: &[u8], e: SolutionEdge, m: usize, at: usize, out: &mut [u8], to: usize) -> usize
-    requires { ⌜ Here (now book) (edgeBy e) m at ⌝ }
+    requires { ⌜ StandsAt (now book) (edgeBy e) m at ⌝ }
     requires { ⌜ at < 2 ^ 16 ⌝ }
     requires { ⌜ to + hopSize ≤ length (now out) ⌝ }
     ensures { λ r. ⌜ Wrote (now (out .entry)) to (entryBytes (now (book .entry)) (edgeBy e) Hops m) (now (out .exit)) r × (r ≤ to + hopSize) ⌝ }
 {
     if places::is_peer_hop(e, m) {
-        let from = places::link_offset(e, at) + 12;
+        let from = places::link_offset(e, at) + PeerEntry::HOP;
         put_peer_hop(book, from, out, to);
-        return to + HOP;
+        return to + HopField::SIZE;
     }
     put_own_hop(book, at, out, to);
-    to + HOP
+    to + HopField::SIZE
 }
 
 // ---- interfaces
 
-// Where a segment is left between two hops, at a shortcut above its first entry, no ingress is shown.
+// At a shortcut above the segment's first entry, without a peer, no ingress is shown.
 fn shown_ingress(e: SolutionEdge, m: usize, ingress: u16) -> u16
     ensures { λ r. ⌜ r ≡ ingressShown (edgeBy e) m ingress ⌝ }
 {
     if e.peer == 0 {
-        if places::is_left(e, m) {
+        if places::is_inner_shortcut(e, m) {
             return 0;
         }
     }
@@ -106,7 +107,7 @@ fn shown_ingress(e: SolutionEdge, m: usize, ingress: u16) -> u16
 }
 
 fn shown(book: &[u8], e: SolutionEdge, m: usize, at: usize) -> ShownIds
-    requires { ⌜ Here (now book) (edgeBy e) m at ⌝ }
+    requires { ⌜ StandsAt (now book) (edgeBy e) m at ⌝ }
     requires { ⌜ at < 2 ^ 16 ⌝ }
     ensures { λ r. ⌜ interfacesHere (now (book .entry)) (edgeBy e) m ≡ shownAs (asOf (segmentOf (now (book .entry)) (edgeBy e)) m) (r .first) ++ shownAs (asOf (segmentOf (now (book .entry)) (edgeBy e)) m) (r .second) ⌝ }
 {
@@ -125,35 +126,35 @@ fn shown(book: &[u8], e: SolutionEdge, m: usize, at: usize) -> ShownIds
     }
 }
 
-// The AS at an offset of the book. It is written also where no id is shown, and what comes next then goes over it: no branch
-// is to be foretold.
+// The AS at an offset of the book. Where no id is shown it is written all the same, and the next one goes over it: the
+// write needs no branch.
 fn put_as(book: &[u8], at: usize, ases: &mut [u8], to: usize, id: u16) -> usize
-    requires { ⌜ (at + 8 ≤ length (now book)) × (to + 8 ≤ length (now ases)) ⌝ }
-    ensures { λ r. ⌜ Appended (now (ases .entry)) to (asIf (isdAsnAt (now (book .entry)) at) id) (now (ases .exit)) r × (r ≤ to + 8) ⌝ }
+    requires { ⌜ (at + asSize ≤ length (now book)) × (to + asSize ≤ length (now ases)) ⌝ }
+    ensures { λ r. ⌜ Appended (now (ases .entry)) to (asIf (isdAsnAt (now (book .entry)) at) id) (now (ases .exit)) r × (r ≤ to + asSize) ⌝ }
 {
-    let mut r = [0u8; 8];
-    within::copy(book, at, &mut r, 0, 8);
-    within::copy(&r, 0, ases, to, 8);
+    let mut r = [0u8; PathInterface::AS];
+    within::copy(book, at, &mut r, 0, PathInterface::AS);
+    within::copy(&r, 0, ases, to, PathInterface::AS);
     if id == 0 {
         return to;
     }
-    to + 8
+    to + PathInterface::AS
 }
 
 fn put_id(ids: &mut [u8], to: usize, id: u16) -> usize
-    requires { ⌜ to + 2 ≤ length (now ids) ⌝ }
-    ensures { λ r. ⌜ Appended (now (ids .entry)) to (idIf id) (now (ids .exit)) r × (r ≤ to + 2) ⌝ }
+    requires { ⌜ to + idSize ≤ length (now ids) ⌝ }
+    ensures { λ r. ⌜ Appended (now (ids .entry)) to (idIf id) (now (ids .exit)) r × (r ≤ to + idSize) ⌝ }
 {
     within::put16(ids, to, id);
     if id == 0 {
         return to;
     }
-    to + 2
+    to + PathInterface::ID
 }
 
 // ---- MTUs
 
-pub const MOST: u16 = 65535;
+pub const MAX_MTU: u16 = 65535;
 
 fn less(x: u16, y: u16) -> u16
     ensures { λ r. ⌜ r ≡ min x y ⌝ }
@@ -164,39 +165,39 @@ fn less(x: u16, y: u16) -> u16
     x
 }
 
-// The most that an MTU can be, where none is said.
-fn or_most(x: u16) -> u16
+// An MTU of 0 says none: then the most that one can be.
+fn or_max(x: u16) -> u16
     ensures { λ r. ⌜ (x ≡ 0 → r ≡ maxMtu) × ((x ≡ 0 → ⊥) → r ≡ x) ⌝ }
 {
     if x == 0 {
-        return MOST;
+        return MAX_MTU;
     }
     x
 }
 
 // The MTU of the link over which the entry is entered, if it counts, else the most.
 fn link_mtu(book: &[u8], e: SolutionEdge, m: usize, at: usize) -> u16
-    requires { ⌜ Here (now book) (edgeBy e) m at ⌝ }
+    requires { ⌜ StandsAt (now book) (edgeBy e) m at ⌝ }
     requires { ⌜ at < 2 ^ 16 ⌝ }
     ensures { λ r. ⌜ r ≡ least maxMtu (linkMtus (segmentOf (now (book .entry)) (edgeBy e)) (edgeBy e) m) ⌝ }
 {
     if places::is_peer_hop(e, m) {
-        return within::read16(book, places::link_offset(e, at) + 10);
+        return within::read16(book, places::link_offset(e, at) + PeerEntry::MTU);
     }
-    if places::is_left(e, m) {
-        return MOST;
+    if places::is_inner_shortcut(e, m) {
+        return MAX_MTU;
     }
-    or_most(within::read16(book, at + 12))
+    or_max(within::read16(book, at + AsEntry::INGRESS_MTU))
 }
 
 // The least of x and the entry's MTUs.
 fn mtu_at(book: &[u8], e: SolutionEdge, m: usize, at: usize, x: u16) -> u16
-    requires { ⌜ Here (now book) (edgeBy e) m at ⌝ }
+    requires { ⌜ StandsAt (now book) (edgeBy e) m at ⌝ }
     requires { ⌜ at < 2 ^ 16 ⌝ }
     ensures { λ r. ⌜ r ≡ least x (mtusAt (segmentOf (now (book .entry)) (edgeBy e)) (edgeBy e) m) ⌝ }
 {
     let y = less(x, link_mtu(book, e, m, at));
-    less(y, (within::read32(book, at + 8) % 65536) as u16)
+    less(y, (within::read32(book, at + AsEntry::MTU) % 65536) as u16)
 }
 
 // ---- one hop
@@ -230,11 +231,11 @@ pub(crate) fn put_entry(
     ases: &mut [u8],
     ids: &mut [u8],
 ) -> Walk
-    requires { ⌜ Here (now book) (edgeBy e) m at ⌝ }
+    requires { ⌜ StandsAt (now book) (edgeBy e) m at ⌝ }
     requires { ⌜ at < 2 ^ 16 ⌝ }
-    requires { ⌜ (w .hops + hopSize ≤ length (now out)) × (w .ases + 16 ≤ length (now ases)) × (w .ids + 4 ≤ length (now ids)) ⌝ }
+    requires { ⌜ (w .hops + hopSize ≤ length (now out)) × (w .ases + entryAses ≤ length (now ases)) × (w .ids + entryIds ≤ length (now ids)) ⌝ }
     ensures { λ r. ⌜ EntryWalked (now (book .entry)) (edgeBy e) m (now (out .entry)) (now (out .exit)) (now (ases .entry)) (now (ases .exit)) (now (ids .entry)) (now (ids .exit)) w r ⌝ }
-    ensures { λ r. ⌜ (r .hops ≤ w .hops + hopSize) × (r .ases ≤ w .ases + 16) × (r .ids ≤ w .ids + 4) ⌝ }
+    ensures { λ r. ⌜ (r .hops ≤ w .hops + hopSize) × (r .ases ≤ w .ases + entryAses) × (r .ids ≤ w .ids + entryIds) ⌝ }
 {
     let shown = shown(book, e, m, at);
     let hops = put_hop(book, e, m, at, out, w.hops);

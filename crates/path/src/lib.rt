@@ -1,7 +1,7 @@
 // Assembly: the path of a chain, from the book to the bytes of its record.
 mod edge;
 mod entry;
-mod frequent;
+mod loop_test;
 mod places;
 mod record;
 mod within;
@@ -11,41 +11,39 @@ ghost use Prim.Native.Nat.{_≤_};
 ghost use lib.ListN.{length};
 ghost use Rattle.spec.specs.Limits.{pathSize};
 ghost use Rattle.spec.specs.Answers.{pathAnswer, assembly};
-ghost use Rattle.path.specs.Usable.{Ready};
-ghost use Rattle.path.specs.Whole.{edgesIn, UsableRecord};
+ghost use Rattle.graph.specs.Ready.{Ready};
+ghost use Rattle.path.specs.Edges.{edgesIn, RecordInBook};
+use book::PLACES;
 use graph::Chain;
 use spec::IsdAsn;
-use spec::Limits;
 use spec::Path;
 use spec::PathAnswer;
+use spec::PathInterface;
 use spec::Refusal;
 
-// The most interfaces of a path: two for each hop of three edges.
-const INTERFACES: usize = 2 * 3 * Limits::ENTRIES;
+// The most bytes of a path's interface ASes, and of their ids.
+const ASES: usize = PathInterface::AS * Path::INTERFACES;
 
-// The bytes of their ASes, and of their ids.
-const ASES: usize = 8 * INTERFACES;
-
-const IDS: usize = 2 * INTERFACES;
+const IDS: usize = PathInterface::ID * Path::INTERFACES;
 
 // The path of a record's first `count` edges, in `out`: its record, or zeros where it is Loop or Bare.
 pub(crate) fn build(
     book: &[u8],
-    table: &[u16; places::PLACES],
+    table: &[u16; PLACES],
     given: &[u8],
     count: usize,
     out: &mut [u8],
 ) -> PathAnswer
     requires { ⌜ Ready (now book) (now table) ⌝ }
-    requires { ⌜ UsableRecord (now book) (now given) count ⌝ }
+    requires { ⌜ RecordInBook (now book) (now given) count ⌝ }
     requires { ⌜ pathSize ≤ length (now out) ⌝ }
     ensures { λ r. ⌜ (r ≡ pathAnswer (now (book .entry)) (length (now (out .entry))) (edgesIn (now (given .entry)) count) .0) × (now (out .exit) ≡ pathAnswer (now (book .entry)) (length (now (out .entry))) (edgesIn (now (given .entry)) count) .1) ⌝ }
 {
     let mut ases = [0u8; ASES];
     let mut ids = [0u8; IDS];
     let ends = record::put_edges(book, table, given, count, out, &mut ases, &mut ids);
-    let shown = ends.ases / 8;
-    if frequent::is_frequent(&ases, 0, shown) {
+    let shown = ends.ases / PathInterface::AS;
+    if loop_test::is_loop(&ases, 0, shown) {
         output::zero(out, 0);
         return PathAnswer::Loop;
     }
@@ -62,7 +60,7 @@ pub(crate) fn build(
 pub fn assemble(src: IsdAsn, dst: IsdAsn, book: &[u8], given: &[u8], out: &mut [u8]) -> PathAnswer
     ensures { λ r. ⌜ (r, now (out .exit)) ≡ assembly (now (book .entry)) src dst (now (given .entry)) (length (now (out .entry))) ⌝ }
 {
-    let mut table = [0u16; places::PLACES];
+    let mut table = [0u16; PLACES];
     let chain = graph::chain_of(src, dst, book, given, &mut table);
     if let Chain::Refused(r) = chain {
         output::zero(out, 0);

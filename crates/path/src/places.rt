@@ -6,28 +6,30 @@ ghost use Rattle.spec.specs.declared.Verdict.the-variants.{Accepted};
 ghost use Rattle.spec.specs.Limits.{entrySize, maxEntries};
 ghost use Rattle.spec.specs.Book.{verdict, macAt};
 ghost use Rattle.spec.specs.Assembly.{isPeerHop, segmentOf};
-ghost use Rattle.path.specs.Usable.{Ready, edgeBy, Usable};
-ghost use Rattle.path.specs.Places.{linkOffset, isLeft, Here, entryFrom};
+ghost use Rattle.graph.specs.Ready.{Ready};
+ghost use Rattle.path.specs.Edges.{edgeBy, InBook};
+ghost use Rattle.path.specs.Places.{linkOffset, isInnerShortcut, StandsAt, entryFrom};
 use crate::within;
+use book::PLACES;
 use spec::AsEntry;
 use spec::Head;
+use spec::HopField;
 use spec::Limits;
 use spec::PeerEntry;
 use spec::Sizes;
 use spec::SolutionEdge;
 
-pub const PLACES: usize = Limits::SEGMENTS * Limits::ENTRIES;
+// Where the first head's timestamp, its id and the low byte of its entry count stand.
+const TIMESTAMP: usize = Sizes::SIZE + Head::TIMESTAMP;
 
-// Where the first segment's id stands.
-const ID: usize = Sizes::SIZE + 4;
+const ID: usize = Sizes::SIZE + Head::ID;
 
-// Where the low byte of the first segment's entry count stands.
-const COUNT: usize = Sizes::SIZE + 7;
+const COUNT: usize = Sizes::SIZE + Head::ENTRIES + 1;
 
 // How many entries the edge's segment has: in an accepted book the count fits its low byte.
 pub(crate) fn entry_count(book: &[u8], e: SolutionEdge) -> usize
     requires { ⌜ verdict (now book) ≡ Accepted ⌝ }
-    requires { ⌜ Usable (now book) (edgeBy e) ⌝ }
+    requires { ⌜ InBook (now book) (edgeBy e) ⌝ }
     ensures { λ r. ⌜ (r ≡ length (segmentOf (now (book .entry)) (edgeBy e) .entries)) × (r ≤ maxEntries) × (e .shortcut < r) ⌝ }
 {
     book[COUNT + Head::SIZE * (e.position as usize)] as usize
@@ -36,16 +38,16 @@ pub(crate) fn entry_count(book: &[u8], e: SolutionEdge) -> usize
 // When the edge's segment was made.
 pub(crate) fn timestamp(book: &[u8], e: SolutionEdge) -> u32
     requires { ⌜ verdict (now book) ≡ Accepted ⌝ }
-    requires { ⌜ Usable (now book) (edgeBy e) ⌝ }
+    requires { ⌜ InBook (now book) (edgeBy e) ⌝ }
     ensures { λ r. ⌜ r ≡ segmentOf (now (book .entry)) (edgeBy e) .timestamp ⌝ }
 {
-    within::read32(book, Sizes::SIZE + Head::SIZE * (e.position as usize))
+    within::read32(book, TIMESTAMP + Head::SIZE * (e.position as usize))
 }
 
 // The segment's id, before any MAC is folded in.
 pub(crate) fn id(book: &[u8], e: SolutionEdge) -> u16
     requires { ⌜ verdict (now book) ≡ Accepted ⌝ }
-    requires { ⌜ Usable (now book) (edgeBy e) ⌝ }
+    requires { ⌜ InBook (now book) (edgeBy e) ⌝ }
     ensures { λ r. ⌜ r ≡ segmentOf (now (book .entry)) (edgeBy e) .id ⌝ }
 {
     within::read16(book, ID + Head::SIZE * (e.position as usize))
@@ -66,9 +68,9 @@ pub(crate) fn entry_of(e: SolutionEdge, n: usize, j: usize) -> usize
 // Where entry m of the edge's segment stands.
 pub(crate) fn offset(book: &[u8], table: &[u16; PLACES], e: SolutionEdge, m: usize) -> usize
     requires { ⌜ Ready (now book) (now table) ⌝ }
-    requires { ⌜ Usable (now book) (edgeBy e) ⌝ }
+    requires { ⌜ InBook (now book) (edgeBy e) ⌝ }
     requires { ⌜ m < length (segmentOf (now book) (edgeBy e) .entries) ⌝ }
-    ensures { λ r. ⌜ Here (now (book .entry)) (edgeBy e) m r × (r < 2 ^ 16) ⌝ }
+    ensures { λ r. ⌜ StandsAt (now (book .entry)) (edgeBy e) m r × (r < 2 ^ 16) ⌝ }
 {
     let row = Limits::ENTRIES * (e.position as usize);
     table[row + m] as usize
@@ -93,9 +95,9 @@ pub(crate) fn is_peer_hop(e: SolutionEdge, m: usize) -> bool
     false
 }
 
-// Entry m is the shortcut, above the segment's first entry: there the path leaves the segment, or comes to it.
-pub(crate) fn is_left(e: SolutionEdge, m: usize) -> bool
-    ensures { λ r. ⌜ r ≡ isLeft (edgeBy e) m ⌝ }
+// Entry m is the shortcut, above the segment's first entry: the path leaves the segment there, or joins it.
+pub(crate) fn is_inner_shortcut(e: SolutionEdge, m: usize) -> bool
+    ensures { λ r. ⌜ r ≡ isInnerShortcut (edgeBy e) m ⌝ }
 {
     if m == (e.shortcut as usize) {
         return 0 < e.shortcut;
@@ -104,15 +106,17 @@ pub(crate) fn is_left(e: SolutionEdge, m: usize) -> bool
 }
 
 // An entry's MAC.
-pub(crate) fn mac(book: &[u8], at: usize) -> [u8; 6]
+pub(crate) fn mac(book: &[u8], at: usize) -> [u8; HopField::MAC]
     requires { ⌜ at + entrySize ≤ length (now book) ⌝ }
     ensures { λ r. ⌜ r ≡ macAt (now (book .entry)) (at + 19) ⌝ }
 {
-    let b0 = book[at + 19];
-    let b1 = book[at + 20];
-    let b2 = book[at + 21];
-    let b3 = book[at + 22];
-    let b4 = book[at + 23];
-    let b5 = book[at + 24];
-    [b0, b1, b2, b3, b4, b5]
+    let m = at + AsEntry::MAC;
+    [
+        book[m],
+        book[m + 1],
+        book[m + 2],
+        book[m + 3],
+        book[m + 4],
+        book[m + 5],
+    ]
 }

@@ -1,55 +1,55 @@
 // The record of a whole path: the edges of a solution's record one after the other.
 ghost use mathlib.Core.Path.{_≡_};
-ghost use mathlib.Core.List.{[], _∷_, _++_, flatMap};
+ghost use mathlib.Core.List.{flatMap};
 ghost use Prim.Native.Nat.{_+_, _*_, _≤_, _<_, min};
 ghost use lib.ListN.{length};
 ghost use Rattle.spec.specs.declared.Verdict.the-variants.{Accepted};
-ghost use Rattle.spec.specs.Limits.{maxEdges, maxEntries, infoSize, pathSize};
+ghost use Rattle.spec.specs.Limits.{maxEdges, maxEntries, solutionHeadSize, edgeSize, infoSize, pathSize};
 ghost use Rattle.spec.specs.Basics.{padded};
-ghost use Rattle.spec.specs.Octets.{octets2, octets4, octets8};
 ghost use Rattle.spec.specs.Book.{verdict};
 ghost use Rattle.spec.specs.Assembly.{combinedPath};
-ghost use Rattle.spec.specs.Records.{recordEdge, pathHead, pathHeadOctets, pathOctets};
-ghost use Rattle.output.specs.Write.{written};
-ghost use Rattle.path.specs.Usable.{Ready};
-ghost use Rattle.path.specs.Places.{Wrote};
+ghost use Rattle.spec.specs.Records.{recordEdge, pathHead, pathOctets};
+ghost use Rattle.graph.specs.Ready.{Ready};
+ghost use Rattle.path.specs.Edges.{edgesIn, RecordInBook};
+ghost use Rattle.path.specs.Places.{Wrote, entryAses, entryIds};
 ghost use Rattle.path.specs.Parts.{infoBytes};
-ghost use Rattle.path.specs.Whole.{edgesIn, UsableRecord, Drawn, Placed};
+ghost use Rattle.path.specs.Whole.{EndsOf, HopsAndIds};
 use crate::edge;
 use crate::entry;
 use crate::entry::Walk;
-use crate::places;
 use crate::within;
+use book::PLACES;
+use spec::HopField;
+use spec::InfoField;
 use spec::Path;
+use spec::PathInterface;
+use spec::Solution;
 use spec::SolutionEdge;
 
-// The bytes of a path record before its infos.
-const HEAD: usize = 26;
-
-// Edge x of a record.
+// Edge x of a record, read with no test of its end.
 fn edge_in(given: &[u8], x: usize) -> SolutionEdge
-    requires { ⌜ 4 + 4 * x + 4 ≤ length (now given) ⌝ }
+    requires { ⌜ solutionHeadSize + edgeSize * x + edgeSize ≤ length (now given) ⌝ }
     ensures { λ r. ⌜ r ≡ recordEdge (now (given .entry)) x ⌝ }
 {
-    let at = 4 + 4 * x;
+    let at = Solution::HEAD + SolutionEdge::SIZE * x;
     SolutionEdge {
         position: given[at],
-        shortcut: given[at + 1],
-        peer: given[at + 2],
-        construction: given[at + 3] == 1,
+        shortcut: given[at + SolutionEdge::SHORTCUT],
+        peer: given[at + SolutionEdge::PEER],
+        construction: given[at + SolutionEdge::DIRECTION] == 1,
     }
 }
 
 pub(crate) fn put_infos(
     book: &[u8],
-    table: &[u16; places::PLACES],
+    table: &[u16; PLACES],
     given: &[u8],
     count: usize,
     out: &mut [u8],
     at: usize,
 ) -> usize
     requires { ⌜ Ready (now book) (now table) ⌝ }
-    requires { ⌜ UsableRecord (now book) (now given) count ⌝ }
+    requires { ⌜ RecordInBook (now book) (now given) count ⌝ }
     requires { ⌜ at + maxEdges * infoSize ≤ length (now out) ⌝ }
     ensures { λ r. ⌜ Wrote (now (out .entry)) at (flatMap (infoBytes (now (book .entry))) (edgesIn (now (given .entry)) count)) (now (out .exit)) r × (r ≤ at + maxEdges * infoSize) ⌝ }
 {
@@ -85,7 +85,7 @@ pub(crate) struct Ends {
 // The hops go where they stand in the path's record; where ASes and ids stand is known when all are.
 pub(crate) fn put_edges(
     book: &[u8],
-    table: &[u16; places::PLACES],
+    table: &[u16; PLACES],
     given: &[u8],
     count: usize,
     out: &mut [u8],
@@ -93,17 +93,17 @@ pub(crate) fn put_edges(
     ids: &mut [u8],
 ) -> Ends
     requires { ⌜ Ready (now book) (now table) ⌝ }
-    requires { ⌜ UsableRecord (now book) (now given) count ⌝ }
-    requires { ⌜ (pathSize ≤ length (now out)) × (16 * maxEntries * maxEdges ≤ length (now ases)) × (4 * maxEntries * maxEdges ≤ length (now ids)) ⌝ }
-    ensures { λ r. ⌜ Drawn (now (book .entry)) (edgesIn (now (given .entry)) count) (now (ases .exit)) r ⌝ }
-    ensures { λ r. ⌜ Placed (now (book .entry)) (edgesIn (now (given .entry)) count) (now (out .exit)) (now (ids .exit)) r ⌝ }
+    requires { ⌜ RecordInBook (now book) (now given) count ⌝ }
+    requires { ⌜ (pathSize ≤ length (now out)) × (entryAses * maxEntries * maxEdges ≤ length (now ases)) × (entryIds * maxEntries * maxEdges ≤ length (now ids)) ⌝ }
+    ensures { λ r. ⌜ EndsOf (now (book .entry)) (edgesIn (now (given .entry)) count) (now (ases .exit)) r ⌝ }
+    ensures { λ r. ⌜ HopsAndIds (now (book .entry)) (edgesIn (now (given .entry)) count) (now (out .exit)) (now (ids .exit)) r ⌝ }
 {
     let mut ends = Ends {
-        hops: HEAD + edge::INFO * count,
+        hops: Path::HEAD + InfoField::SIZE * count,
         ases: 0,
         ids: 0,
-        mtu: entry::MOST,
-        expiry: edge::LAST,
+        mtu: entry::MAX_MTU,
+        expiry: edge::MAX_TIME,
     };
     let mut x: usize = 0;
     while x < count {
@@ -134,55 +134,28 @@ pub(crate) fn put_edges(
 // Counts, MTU, expiry, and the first and last interface's AS.
 fn path_head(book: &[u8], given: &[u8], count: usize, ases: &[u8], ends: Ends) -> Path
     requires { ⌜ verdict (now book) ≡ Accepted ⌝ }
-    requires { ⌜ UsableRecord (now book) (now given) count ⌝ }
-    requires { ⌜ Drawn (now book) (edgesIn (now given) count) (now ases) ends ⌝ }
+    requires { ⌜ RecordInBook (now book) (now given) count ⌝ }
+    requires { ⌜ EndsOf (now book) (edgesIn (now given) count) (now ases) ends ⌝ }
     requires { ⌜ 0 < ends .ases ⌝ }
     ensures { λ r. ⌜ r ≡ pathHead (combinedPath (now (book .entry)) (edgesIn (now (given .entry)) count)) ⌝ }
 {
     let first = segment::isd_asn(ases, 0);
-    let last = segment::isd_asn(ases, ends.ases - 8);
-    Path {
-        infos: count as u8,
-        hops: ((ends.hops - HEAD - edge::INFO * count) / entry::HOP) as u8,
-        interfaces: (ends.ases / 8) as u8,
-        mtu: ends.mtu,
-        expiry: ends.expiry,
-        first: first,
-        last: last,
-    }
-}
-
-fn put_counts(out: &mut [u8], infos: u8, hops: u8, interfaces: u8)
-    ensures { λ _. ⌜ now (out .exit) ≡ written (now (out .entry)) 0 (infos ∷ hops ∷ interfaces ∷ 0 ∷ []) ⌝ }
-{
-    output::put_byte(out, 0, infos);
-    output::put_byte(out, 1, hops);
-    output::put_byte(out, 2, interfaces);
-    output::put_byte(out, 3, 0);
-}
-
-fn put_ends(out: &mut [u8], mtu: u16, expiry: u32, first: u64, last: u64)
-    ensures { λ _. ⌜ now (out .exit) ≡ written (now (out .entry)) 4 (octets2 mtu ++ octets4 expiry ++ octets8 first ++ octets8 last) ⌝ }
-{
-    output::put16(out, 4, mtu);
-    output::put32(out, 6, expiry);
-    output::put64(out, 10, first);
-    output::put64(out, 18, last);
-}
-
-fn put_head(out: &mut [u8], head: Path)
-    ensures { λ _. ⌜ now (out .exit) ≡ written (now (out .entry)) 0 (pathHeadOctets head) ⌝ }
-{
-    put_counts(out, head.infos, head.hops, head.interfaces);
-    let first = head.first;
-    let last = head.last;
-    put_ends(out, head.mtu, head.expiry, first.0, last.0);
+    let last = segment::isd_asn(ases, ends.ases - PathInterface::AS);
+    Path::new(
+        count as u8,
+        ((ends.hops - Path::HEAD - InfoField::SIZE * count) / HopField::SIZE) as u8,
+        (ends.ases / PathInterface::AS) as u8,
+        ends.mtu,
+        ends.expiry,
+        first,
+        last,
+    )
 }
 
 // The record of a path with interfaces, whose hops stand.
 pub(crate) fn put_path(
     book: &[u8],
-    table: &[u16; places::PLACES],
+    table: &[u16; PLACES],
     given: &[u8],
     count: usize,
     out: &mut [u8],
@@ -191,17 +164,17 @@ pub(crate) fn put_path(
     ends: Ends,
 )
     requires { ⌜ Ready (now book) (now table) ⌝ }
-    requires { ⌜ UsableRecord (now book) (now given) count ⌝ }
-    requires { ⌜ Drawn (now book) (edgesIn (now given) count) (now ases) ends ⌝ }
-    requires { ⌜ Placed (now book) (edgesIn (now given) count) (now out) (now ids) ends ⌝ }
+    requires { ⌜ RecordInBook (now book) (now given) count ⌝ }
+    requires { ⌜ EndsOf (now book) (edgesIn (now given) count) (now ases) ends ⌝ }
+    requires { ⌜ HopsAndIds (now book) (edgesIn (now given) count) (now out) (now ids) ends ⌝ }
     requires { ⌜ (pathSize ≤ length (now out)) × (0 < ends .ases) ⌝ }
     ensures { λ _. ⌜ now (out .exit) ≡ padded (length (now (out .entry))) (pathOctets (combinedPath (now (book .entry)) (edgesIn (now (given .entry)) count))) ⌝ }
 {
     let head = path_head(book, given, count, ases, ends);
-    put_infos(book, table, given, count, out, HEAD);
+    put_infos(book, table, given, count, out, Path::HEAD);
     let next = ends.hops + ends.ases;
     within::copy(ases, 0, out, ends.hops, ends.ases);
     within::copy(ids, 0, out, next, ends.ids);
-    put_head(out, head);
+    records::put_head(out, head);
     output::zero(out, next + ends.ids);
 }

@@ -31,7 +31,7 @@ use Rattle.output.proofs.Writing.{zeroed-all}
 use Rattle.order.specs.Records.{recordAt}
 use Rattle.path.specs.Places.{Wrote}
 use Rattle.path.proofs.Writes.{wrote-none, wrote-as}
-use Rattle.printed.specs.Pieces.{solutionText, slotText, slotHasPath, pathsTo, listed, countsLine, firstBy, firstLine, firstLineSize, countOf}
+use Rattle.printed.specs.Pieces.{endsSize, solutionText, slotText, slotHasPath, pathsTo, listed, countsLine, firstBy, firstLine, firstLineSize, countOf}
 use Rattle.printed.specs.declared.Opening.{Opening}
 use Rattle.printed.specs.Opened.{Opened}
 use Rattle.printed.proofs.Solutions.{text-stranger, text-refused}
@@ -39,8 +39,8 @@ use Rattle.printed.proofs.Joined.{counted-room}
 
 -- ---- parts
 
-pub book-part : (input : List ℕ) → take (length input - 16) (drop 16 input) ≡ drop 16 input
-book-part input = take-all (length input - 16) (drop 16 input) (omega (arith, length-drop 16 input))
+pub book-part : (input : List ℕ) → take (length input - endsSize) (drop endsSize input) ≡ drop endsSize input
+book-part input = take-all (length input - endsSize) (drop endsSize input) (omega (arith, length-drop endsSize input))
 
 pub slot-part : (records : List ℕ) (k : ℕ) → take (solutionSize * k + solutionSize - solutionSize * k) (drop (solutionSize * k) records) ≡ recordAt records k
 slot-part records k =
@@ -50,19 +50,19 @@ slot-part records k =
 -- ---- the list
 
 module _ (input : List ℕ) (bytes : ℕ) where
-  pub listed-short : length input < 16 → (records : List ℕ) → length records ≡ bytes → (d : List ℕ) → d ≡ zeroed records 0 → (RefusedList Cut, d) ≡ listed input bytes
+  pub listed-short : length input < endsSize → (records : List ℕ) → length records ≡ bytes → (d : List ℕ) → d ≡ zeroed records 0 → (RefusedList Cut, d) ≡ listed input bytes
   unfolding listed refusedList
   listed-short h records e d q =
       ap (λ l. (RefusedList Cut, l)) (q ∙ zeroed-all records ∙ ap (λ n. replicate n 0) e)
-      ∙ sym (ap (λ t. if t then (RefusedList Cut, replicate bytes 0) else listing sha256 (drop 16 input) (isdAsnAt input 0) (isdAsnAt input 8) bytes) (lt-ltb (length input) 16 h))
+      ∙ sym (ap (λ t. if t then (RefusedList Cut, replicate bytes 0) else listing sha256 (drop endsSize input) (isdAsnAt input 0) (isdAsnAt input 8) bytes) (lt-ltb (length input) endsSize h))
 
-  pub listed-long : 16 ≤ length input → (src dst : IsdAsn) → src ≡ isdAsnAt input 0 → dst ≡ isdAsnAt input 8 → (b : List ℕ) → b ≡ drop 16 input
+  pub listed-long : endsSize ≤ length input → (src dst : IsdAsn) → src ≡ isdAsnAt input 0 → dst ≡ isdAsnAt input 8 → (b : List ℕ) → b ≡ drop endsSize input
       → (x : Listed) → x ≡ listing sha256 b src dst bytes → x ≡ listed input bytes
   unfolding listed
   listed-long h src dst s t b e x q =
-      let same : listing sha256 b src dst bytes ≡ listing sha256 (drop 16 input) (isdAsnAt input 0) (isdAsnAt input 8) bytes = cc in
+      let same : listing sha256 b src dst bytes ≡ listing sha256 (drop endsSize input) (isdAsnAt input 0) (isdAsnAt input 8) bytes = cc in
       q ∙ same
-      ∙ sym (ap (λ t. if t then refusedList bytes Cut else listing sha256 (drop 16 input) (isdAsnAt input 0) (isdAsnAt input 8) bytes) (le-ltb (length input) 16 h))
+      ∙ sym (ap (λ t. if t then refusedList bytes Cut else listing sha256 (drop endsSize input) (isdAsnAt input 0) (isdAsnAt input 8) bytes) (le-ltb (length input) endsSize h))
 
 -- ---- paths
 
@@ -105,46 +105,46 @@ module _ (input records : List ℕ) where
   -- ---- slots that hold no record
 
   module _ (k : ℕ) where
-    none-short : (v : Verdict) → verdict (drop 16 input) ≡ v → length (recordAt records k) < solutionSize → slotText input records k ≡ []
+    none-short : (v : Verdict) → verdict (drop endsSize input) ≡ v → length (recordAt records k) < solutionSize → slotText input records k ≡ []
     unfolding slotText
-    none-short (RefusedBook r) q h = text-refused (drop 16 input) (isdAsnAt input 0) (isdAsnAt input 8) (k + 1) r q (recordAt records k)
+    none-short (RefusedBook r) q h = text-refused (drop endsSize input) (isdAsnAt input 0) (isdAsnAt input 8) (k + 1) r q (recordAt records k)
     none-short Accepted q h =
-        text-stranger (drop 16 input) (isdAsnAt input 0) (isdAsnAt input 8) (k + 1) q (recordAt records k)
+        text-stranger (drop endsSize input) (isdAsnAt input 0) (isdAsnAt input 8) (k + 1) q (recordAt records k)
         (λ c p e. omega (arith, ap length e, solution-length c (allowed-length c (p .kinds))))
 
-    none-cut : length input < 16 → slotText input records k ≡ []
+    none-cut : length input < endsSize → slotText input records k ≡ []
     unfolding slotText
-    none-cut h = text-refused (drop 16 input) (isdAsnAt input 0) (isdAsnAt input 8) (k + 1) Cut refused (recordAt records k)
+    none-cut h = text-refused (drop endsSize input) (isdAsnAt input 0) (isdAsnAt input 8) (k + 1) Cut refused (recordAt records k)
       where
-        refused : verdict (drop 16 input) ≡ RefusedBook Cut
-        refused = ap verdict (drop-of-length-le input {i = 16} (omega arith)) ∙ unfold verdict in refl
+        refused : verdict (drop endsSize input) ≡ RefusedBook Cut
+        refused = ap verdict (drop-of-length-le input {i = endsSize} (omega arith)) ∙ unfold verdict in refl
 
-    pub wrote-cut : (d : List ℕ) → length input < 16 → Wrote d 0 (slotText input records k) d 0
+    pub wrote-cut : (d : List ℕ) → length input < endsSize → Wrote d 0 (slotText input records k) d 0
     wrote-cut d h = wrote-as (sym (none-cut h)) (wrote-none d 0)
 
     pub wrote-past : (d : List ℕ) → length records / solutionSize ≤ k → Wrote d 0 (slotText input records k) d 0
     wrote-past d h =
-        wrote-as (sym (none-short (verdict (drop 16 input)) refl
+        wrote-as (sym (none-short (verdict (drop endsSize input)) refl
         (omega (arith, length-take solutionSize (drop (solutionSize * k) records), length-drop (solutionSize * k) records)))) (wrote-none d 0)
 
-    pub wrote-slot : (src dst : IsdAsn) → src ≡ isdAsnAt input 0 → dst ≡ isdAsnAt input 8 → (b : List ℕ) → b ≡ drop 16 input → (given : List ℕ) → given ≡ recordAt records k
+    pub wrote-slot : (src dst : IsdAsn) → src ≡ isdAsnAt input 0 → dst ≡ isdAsnAt input 8 → (b : List ℕ) → b ≡ drop endsSize input → (given : List ℕ) → given ≡ recordAt records k
         → {d d′ : List ℕ} {r : ℕ} → Wrote d 0 (solutionText b src dst given (k + 1)) d′ r → Wrote d 0 (slotText input records k) d′ r
     unfolding slotText
     wrote-slot src dst s t b e given g w =
-        let q : solutionText b src dst given (k + 1) ≡ solutionText (drop 16 input) (isdAsnAt input 0) (isdAsnAt input 8) (recordAt records k) (k + 1) = cc in
+        let q : solutionText b src dst given (k + 1) ≡ solutionText (drop endsSize input) (isdAsnAt input 0) (isdAsnAt input 8) (recordAt records k) (k + 1) = cc in
         wrote-as q w
 
-    pub told-path : (src dst : IsdAsn) → src ≡ isdAsnAt input 0 → dst ≡ isdAsnAt input 8 → (b : List ℕ) → b ≡ drop 16 input → (given : List ℕ) → given ≡ recordAt records k
+    pub told-path : (src dst : IsdAsn) → src ≡ isdAsnAt input 0 → dst ≡ isdAsnAt input 8 → (b : List ℕ) → b ≡ drop endsSize input → (given : List ℕ) → given ≡ recordAt records k
         → (t : Bool) → t ≡ isPath (assembly b src dst given pathSize .0) → t ≡ slotHasPath input records k
     unfolding slotHasPath
     told-path src dst s t b e given g r q =
-        let a : assembly b src dst given pathSize ≡ assembly (drop 16 input) (isdAsnAt input 0) (isdAsnAt input 8) (recordAt records k) pathSize = cc in
+        let a : assembly b src dst given pathSize ≡ assembly (drop endsSize input) (isdAsnAt input 0) (isdAsnAt input 8) (recordAt records k) pathSize = cc in
         q ∙ ap (λ (x : _). isPath (x .0)) a
 
 -- ---- the first line
 
 module _ (input : List ℕ) (bytes : ℕ) (answer : ListAnswer) (records : List ℕ) (q : (answer, records) ≡ listed input bytes) where
-  pub count-room : (n : ℕ) → answer ≡ Count n → (16 ≤ length input) × (solutionSize * n ≤ bytes)
+  pub count-room : (n : ℕ) → answer ≡ Count n → (endsSize ≤ length input) × (solutionSize * n ≤ bytes)
   count-room n e = counted-room input bytes n (sym (ap (λ (x : Listed). x .0) q) ∙ e)
 
   pub opened-counts : (n : ℕ) → answer ≡ Count n → (paths : ℕ) → paths ≡ pathsTo input records n

@@ -27,16 +27,15 @@ use Rattle.spec.specs.Order.{solutions}
 use Rattle.spec.specs.Records.{solutionOctets, slots}
 use Rattle.spec.specs.Answers.{Listed, refusedList, listingOf, listingOn, listing, assembly}
 use Rattle.spec.specs.Printed.{item, newline, solutionsLines, isPath, assembles, refusedLine, printedOn, printed}
-use Rattle.spec.proofs.Lists.{map-same}
+use Rattle.spec.proofs.Lists.{map-same, flat-map}
 use Rattle.spec.proofs.Membership.{map-mem}
 use Rattle.spec.proofs.ChainLaws.{allowed-length}
 use Rattle.spec.proofs.OnceLaws.{solutions-sound}
 use Rattle.spec.proofs.ByteLaws.{read-all}
 use Rattle.spec.proofs.LengthLaws.{solution-length, slots-fit}
-use Rattle.spec.proofs.ReadBack.{flat-map}
 use Rattle.spec.proofs.PrintedLaws.{printed-short, printed-refused, printed-count}
 use Rattle.order.specs.Records.{recordFrom, recordAt}
-use Rattle.printed.specs.Pieces.{solutionText, slotText, slotHasPath, pathsTo, listed, countsLine, firstBy, firstLine, countOf, pieces}
+use Rattle.printed.specs.Pieces.{endsSize, solutionText, slotText, slotHasPath, pathsTo, listed, countsLine, firstBy, firstLine, countOf, pieces}
 use Rattle.printed.proofs.Solutions.{text-chain}
 
 -- ---- the slots hold the records
@@ -75,7 +74,7 @@ module _ (found : List (List Edge)) (few : (c : List Edge) → Mem c found → l
 
 module _ (input : List ℕ) where
   abbrev book : List ℕ
-  book = drop 16 input
+  book = drop endsSize input
 
   abbrev src : IsdAsn
   src = isdAsnAt input 0
@@ -89,10 +88,10 @@ module _ (input : List ℕ) where
   abbrev full : ℕ
   full = maxSlots * solutionSize
 
-  lines-joined : verdict (drop 16 input) ≡ Accepted → (records : List ℕ) (cs : List (List Edge))
-      → ((c : List Edge) → Mem c cs → IsChain (drop 16 input) (isdAsnAt input 0) (isdAsnAt input 8) c) → (i : ℕ)
+  lines-joined : verdict (drop endsSize input) ≡ Accepted → (records : List ℕ) (cs : List (List Edge))
+      → ((c : List Edge) → Mem c cs → IsChain (drop endsSize input) (isdAsnAt input 0) (isdAsnAt input 8) c) → (i : ℕ)
       → map (recordAt records) (range i (length cs)) ≡ map solutionOctets cs
-      → flatMap (slotText input records) (range i (length cs)) ≡ solutionsLines (drop 16 input) (i + 1) cs
+      → flatMap (slotText input records) (range i (length cs)) ≡ solutionsLines (drop endsSize input) (i + 1) cs
   unfolding range flatMap solutionsLines slotText
   lines-joined ok records [] all i q = refl
   lines-joined ok records (c ∷ cs) all i q =
@@ -102,7 +101,7 @@ module _ (input : List ℕ) where
 
   paths-joined : (records : List ℕ) (cs : List (List Edge)) (i : ℕ)
       → map (recordAt records) (range i (length cs)) ≡ map solutionOctets cs
-      → length (filter (slotHasPath input records) (range i (length cs))) ≡ length (filter (assembles (drop 16 input) (isdAsnAt input 0) (isdAsnAt input 8)) cs)
+      → length (filter (slotHasPath input records) (range i (length cs))) ≡ length (filter (assembles (drop endsSize input) (isdAsnAt input 0) (isdAsnAt input 8)) cs)
   unfolding range filter
   paths-joined records [] i q = refl
   paths-joined records (c ∷ cs) i q =
@@ -120,7 +119,7 @@ module _ (input : List ℕ) where
       go ih false true e = let z : _≡_ {A = ℕ} 0 1 = cc in absurd (omega arith)
 
   paths-all : (records : List ℕ) (cs : List (List Edge)) → map (recordAt records) (range 0 (length cs)) ≡ map solutionOctets cs
-      → pathsTo input records (length cs) ≡ length (filter (assembles (drop 16 input) (isdAsnAt input 0) (isdAsnAt input 8)) cs)
+      → pathsTo input records (length cs) ≡ length (filter (assembles (drop endsSize input) (isdAsnAt input 0) (isdAsnAt input 8)) cs)
   unfolding pathsTo
   paths-all records cs q = paths-joined records cs 0 q
 
@@ -128,13 +127,13 @@ module _ (input : List ℕ) where
 
   -- what listing leaves where it counts
   record Counted (bytes n : ℕ) : Type 0 where
-    ok : verdict (drop 16 input) ≡ Accepted
+    ok : verdict (drop endsSize input) ≡ Accepted
     room : solutionSize * n ≤ bytes
-    count : n ≡ length (solutions sha256 (drop 16 input) (isdAsnAt input 0) (isdAsnAt input 8))
-    records : listing sha256 (drop 16 input) (isdAsnAt input 0) (isdAsnAt input 8) bytes .1
-        ≡ padded bytes (flatMap solutionOctets (solutions sha256 (drop 16 input) (isdAsnAt input 0) (isdAsnAt input 8)))
+    count : n ≡ length (solutions sha256 (drop endsSize input) (isdAsnAt input 0) (isdAsnAt input 8))
+    records : listing sha256 (drop endsSize input) (isdAsnAt input 0) (isdAsnAt input 8) bytes .1
+        ≡ padded bytes (flatMap solutionOctets (solutions sha256 (drop endsSize input) (isdAsnAt input 0) (isdAsnAt input 8)))
 
-  counted : (bytes n : ℕ) → listing sha256 (drop 16 input) (isdAsnAt input 0) (isdAsnAt input 8) bytes .0 ≡ Count n → Counted bytes n
+  counted : (bytes n : ℕ) → listing sha256 (drop endsSize input) (isdAsnAt input 0) (isdAsnAt input 8) bytes .0 ≡ Count n → Counted bytes n
   unfolding listing listingOf refusedList
   counted bytes n q = on (verdict book) refl q
     where
@@ -157,13 +156,13 @@ module _ (input : List ℕ) where
       on (RefusedBook s) e p = let z : _≡_ {A = ℕ} 0 1 = cc in absurd (omega arith)
       on Accepted e p = of e (ltb (slots bytes) (length found)) refl (ap (λ v. listingOn v bytes found) e) p
 
-  module _ (enough : 16 ≤ length input) where
-    listed-is : (bytes : ℕ) → listed input bytes ≡ listing sha256 (drop 16 input) (isdAsnAt input 0) (isdAsnAt input 8) bytes
+  module _ (enough : endsSize ≤ length input) where
+    listed-is : (bytes : ℕ) → listed input bytes ≡ listing sha256 (drop endsSize input) (isdAsnAt input 0) (isdAsnAt input 8) bytes
     unfolding listed
     listed-is bytes =
-        ap (λ t. if t then refusedList bytes Cut else listing sha256 book src dst bytes) (le-ltb (length input) 16 enough)
+        ap (λ t. if t then refusedList bytes Cut else listing sha256 book src dst bytes) (le-ltb (length input) endsSize enough)
 
-    by-answer : (a : ListAnswer) (records : List ℕ) → listing sha256 (drop 16 input) (isdAsnAt input 0) (isdAsnAt input 8) (maxSlots * solutionSize) ≡ (a, records)
+    by-answer : (a : ListAnswer) (records : List ℕ) → listing sha256 (drop endsSize input) (isdAsnAt input 0) (isdAsnAt input 8) (maxSlots * solutionSize) ≡ (a, records)
         → firstBy input a records ++ flatMap (slotText input records) (range 0 (countOf a)) ≡ printed sha256 input
     unfolding range flatMap padded countsLine
     by-answer (RefusedList r) records q =
@@ -180,38 +179,38 @@ module _ (input : List ℕ) where
         ∙ sym (printed-count sha256 input enough n (ap (λ (x : Listed). x .0) q))
 
   -- where listing counts, the input has its ends, and the records fit
-  pub counted-room : (bytes n : ℕ) → listed input bytes .0 ≡ Count n → (16 ≤ length input) × (solutionSize * n ≤ bytes)
+  pub counted-room : (bytes n : ℕ) → listed input bytes .0 ≡ Count n → (endsSize ≤ length input) × (solutionSize * n ≤ bytes)
   unfolding listed refusedList
-  counted-room bytes n q = go (decLe 16 (length input))
+  counted-room bytes n q = go (decLe endsSize (length input))
     where
       answered : Bool → ListAnswer
       answered t = (if t then (RefusedList Cut, replicate bytes 0) else listing sha256 book src dst bytes) .0
 
-      go : Dec (16 ≤ length input) → (16 ≤ length input) × (solutionSize * n ≤ bytes)
-      go (yes h) = (h, counted bytes n (sym (ap answered (le-ltb (length input) 16 h)) ∙ q) .room)
+      go : Dec (endsSize ≤ length input) → (endsSize ≤ length input) × (solutionSize * n ≤ bytes)
+      go (yes h) = (h, counted bytes n (sym (ap answered (le-ltb (length input) endsSize h)) ∙ q) .room)
       go (no h) =
-          let e : RefusedList Cut ≡ Count n = sym (ap answered (lt-ltb (length input) 16 (omega arith))) ∙ q in
+          let e : RefusedList Cut ≡ Count n = sym (ap answered (lt-ltb (length input) endsSize (omega arith))) ∙ q in
           let z : _≡_ {A = ℕ} 0 1 = cc in absurd (omega arith)
 
   abbrev joined : Listed → List ℕ
   joined x = firstBy input (x .0) (x .1) ++ flatMap (slotText input (x .1)) (range 0 (countOf (x .0)))
 
-  pieces-short : length input < 16 → pieces input (maxSlots * solutionSize) ≡ refusedLine Cut
+  pieces-short : length input < endsSize → pieces input (maxSlots * solutionSize) ≡ refusedLine Cut
   unfolding pieces firstLine listed refusedList range flatMap
   pieces-short h =
-      ap (λ t. joined (if t then (RefusedList Cut, replicate full 0) else listing sha256 book src dst full)) (lt-ltb (length input) 16 h)
+      ap (λ t. joined (if t then (RefusedList Cut, replicate full 0) else listing sha256 book src dst full)) (lt-ltb (length input) endsSize h)
       ∙ append-nil (refusedLine Cut)
 
-  pieces-enough : 16 ≤ length input → pieces input (maxSlots * solutionSize) ≡ printed sha256 input
+  pieces-enough : endsSize ≤ length input → pieces input (maxSlots * solutionSize) ≡ printed sha256 input
   unfolding pieces firstLine
   pieces-enough h = ap joined (listed-is h full) ∙ by-answer h (listing sha256 book src dst full .0) (listing sha256 book src dst full .1) refl
 
   pub pieces-printed : pieces input (maxSlots * solutionSize) ≡ printed sha256 input
-  pieces-printed = go (decLe 16 (length input))
+  pieces-printed = go (decLe endsSize (length input))
     where
-      go : Dec (16 ≤ length input) → pieces input (maxSlots * solutionSize) ≡ printed sha256 input
+      go : Dec (endsSize ≤ length input) → pieces input (maxSlots * solutionSize) ≡ printed sha256 input
       go (yes h) = pieces-enough h
-      go (no h) = let short : length input < 16 = omega arith in pieces-short short ∙ sym (printed-short sha256 input short)
+      go (no h) = let short : length input < endsSize = omega arith in pieces-short short ∙ sym (printed-short sha256 input short)
 
 -- ---- a long input
 
@@ -219,20 +218,20 @@ oversize : (b : List ℕ) → maxBook < length b → verdict b ≡ RefusedBook O
 unfolding verdict
 oversize b h = rw (lt-ltb maxBook (length b) h)
 
-printed-oversize : (digest : List ℕ → List ℕ) (input : List ℕ) → 16 + maxBook < length input → printed digest input ≡ refusedLine Oversize
+printed-oversize : (digest : List ℕ → List ℕ) (input : List ℕ) → endsSize + maxBook < length input → printed digest input ≡ refusedLine Oversize
 unfolding printed
 printed-oversize digest input h =
-    let b : List ℕ = drop 16 input in
+    let b : List ℕ = drop endsSize input in
     let found : List (List Edge) = solutions digest b (isdAsnAt input 0) (isdAsnAt input 8) in
-    ap (λ t. if t then refusedLine Cut else printedOn (verdict b) b found) (le-ltb (length input) 16 (omega arith))
-    ∙ ap (λ v. printedOn v b found) (oversize b (omega (arith, length-drop 16 input)))
+    ap (λ t. if t then refusedLine Cut else printedOn (verdict b) b found) (le-ltb (length input) endsSize (omega arith))
+    ∙ ap (λ v. printedOn v b found) (oversize b (omega (arith, length-drop endsSize input)))
 
 -- what follows the longest book's first surplus byte is not looked at
-pub printed-front : (digest : List ℕ → List ℕ) (input : List ℕ) → printed digest (take (16 + maxBook + 1) input) ≡ printed digest input
-printed-front digest input = go (decLe (length input) (16 + maxBook))
+pub printed-front : (digest : List ℕ → List ℕ) (input : List ℕ) → printed digest (take (endsSize + maxBook + 1) input) ≡ printed digest input
+printed-front digest input = go (decLe (length input) (endsSize + maxBook))
   where
-    go : Dec (length input ≤ 16 + maxBook) → printed digest (take (16 + maxBook + 1) input) ≡ printed digest input
-    go (yes h) = ap (printed digest) (take-all (16 + maxBook + 1) input (omega arith))
+    go : Dec (length input ≤ endsSize + maxBook) → printed digest (take (endsSize + maxBook + 1) input) ≡ printed digest input
+    go (yes h) = ap (printed digest) (take-all (endsSize + maxBook + 1) input (omega arith))
     go (no h) =
-        printed-oversize digest (take (16 + maxBook + 1) input) (omega (arith, length-take-le (16 + maxBook + 1) input (omega arith)))
+        printed-oversize digest (take (endsSize + maxBook + 1) input) (omega (arith, length-take-le (endsSize + maxBook + 1) input (omega arith)))
         ∙ sym (printed-oversize digest input (omega arith))

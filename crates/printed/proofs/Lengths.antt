@@ -26,7 +26,7 @@ use Rattle.spec.specs.Records.{bit, solutionOctets}
 use Rattle.spec.specs.Printed.{ascii, decimal, hex, item, newline, infoLine, interfaceLine, pathLines, linesBy, outcomeLines, solutionLines}
 use Rattle.spec.proofs.ChainLaws.{chains-sound, chains-complete}
 use Rattle.spec.proofs.ByteLaws.{GoodInfo}
-use Rattle.spec.proofs.BookLaws.{Stored, stored, accepted}
+use Rattle.spec.proofs.BookLaws.{accepted}
 use Rattle.spec.proofs.PathLaws.{hops-length, good-infos}
 use Rattle.spec.proofs.Bounds.{ChainBounds, flat-most, interfaces-most, chain-bounds}
 use Rattle.spec.proofs.ReadBack.{GoodInterface, good-interfaces, mtu-lt, expiry-lt}
@@ -105,7 +105,6 @@ module _ (b : List ℕ) (bytes : Bytes b) (src dst : IsdAsn) (ok : verdict b ≡
   path-most : length (pathLines (combinedPath b c)) ≤ 5 + 5 + (8 + 10) + (6 + 2) + 1 + maxEdges * infoLineSize + maxEdges * maxEntries * 2 * interfaceLineSize
   unfolding pathLines ascii newline
   path-most =
-      let st : (e : Edge) → Mem e c → Stored b e = λ e m. stored b (h .stored e m) in
       let infos : List ℕ = flatMap infoLine (p .infos) in
       let interfaces : List ℕ = flatMap interfaceLine (p .interfaces) in
       let fields : List ℕ = item " mtu " (p .mtu) ++ item " expiry " (p .expiry) ++ item " hops " (length (p .hops)) ++ newline in
@@ -116,7 +115,7 @@ module _ (b : List ℕ) (bytes : Bytes b) (src dst : IsdAsn) (ok : verdict b ≡
         item-most " mtu " 4 (p .mtu) (omega (arith, mtu-lt b c)),
         item-most " expiry " 9 (p .expiry) (omega (arith, expiry-lt b c)),
         item-most " hops " 1 (length (p .hops)) (omega (arith, hops-few)),
-        flat-most infoLine infoLineSize (p .infos) (λ i m. info-most i (good-infos b bytes c st 0 i m)),
+        flat-most infoLine infoLineSize (p .infos) (λ i m. info-most i (good-infos b bytes c i m)),
         flat-most interfaceLine interfaceLineSize (p .interfaces) (λ i m. interface-most i (good-interfaces b bytes c i m)),
         infos-few,
         interfaces-few,

@@ -10,6 +10,7 @@ use lib.ListN.{length}
 use Rattle.spec.specs.declared.IsdAsn.{IsdAsn}
 use Rattle.spec.specs.declared.Edge.{Edge}
 use Rattle.spec.specs.declared.Path.{Path as PathHead}
+use Rattle.spec.specs.declared.Solution.{Solution}
 use Rattle.spec.specs.declared.Refusal.{Refusal}
 use Rattle.spec.specs.declared.Verdict.{Verdict}
 use Rattle.spec.specs.declared.Verdict.the-variants.{Accepted, Refused as RefusedBook}
@@ -17,22 +18,22 @@ use Rattle.spec.specs.declared.PathAnswer.{PathAnswer}
 use Rattle.spec.specs.declared.PathAnswer.the-variants.{Path, Loop, Bare, Refused as RefusedPath}
 use Rattle.spec.specs.Limits.{pathSize}
 use Rattle.spec.specs.Basics.{if_then_else_, range, sameList, padded}
-use Rattle.spec.specs.Octets.{Bytes, octets2}
+use Rattle.spec.specs.Octets.{Bytes}
 use Rattle.spec.specs.Book.{verdict}
 use Rattle.spec.specs.Chains.{IsChain, chains}
 use Rattle.spec.specs.Order.{cost}
 use Rattle.spec.specs.Assembly.{combinedPath, isLoop, isBare, outcome}
-use Rattle.spec.specs.Records.{solutionOctets, pathHead, pathOctets, pathHeadIn, recordInterface, interfacesIn}
+use Rattle.spec.specs.Records.{solutionOctets, solutionOf, pathHead, pathOctets, pathHeadIn, recordInterface, interfacesIn}
 use Rattle.spec.specs.Router.{recordInfo, infosIn}
 use Rattle.spec.specs.Answers.{Assembled, refusedPath, leftBy, pathAnswer, assembly}
 use Rattle.spec.specs.Printed.{ascii, decimal, item, newline, infoLine, interfaceLine, pathLines, linesBy, outcomeLines, solutionLines}
+use Rattle.spec.proofs.Lists.{flat-map}
 use Rattle.spec.proofs.Membership.{not-both}
 use Rattle.spec.proofs.ChainLaws.{chains-sound, chains-complete}
 use Rattle.spec.proofs.AnswerLaws.{sameList-eq, sameList-refl, record-chain, assembly-chain, assembly-stranger, assembly-refused}
-use Rattle.spec.proofs.ByteLaws.{cost-back}
 use Rattle.spec.proofs.BookLaws.{accepted}
 use Rattle.spec.proofs.Bounds.{chain-bounds}
-use Rattle.spec.proofs.ReadBack.{PathRead, path-read, flat-map}
+use Rattle.spec.proofs.ReadBack.{PathRead, path-read, solution-back}
 use Rattle.path.specs.Places.{Wrote}
 use Rattle.path.proofs.Writes.{wrote-none, wrote-join, wrote-as}
 use Rattle.printed.specs.Lines.{fieldsLine, infoText, interfaceText, linesTo, pathText}
@@ -129,10 +130,10 @@ module _ (b : List ℕ) (c : List Edge) (n : ℕ) (read : PathRead b c n) where
 module _ (b : List ℕ) (bytes : Bytes b) (src dst : IsdAsn) (number : ℕ) where
   module _ (ok : verdict b ≡ Accepted) (c : List Edge) (h : IsChain b src dst c) where
     start-text : startText (solutionOctets c) number ≡ decimal number ++ item " cost " (cost c) ++ item " segments " (length c)
-    unfolding startText
+    unfolding startText solutionOf
     start-text =
-        ap₂ (λ x y. decimal number ++ item " cost " x ++ item " segments " y)
-        (cost-back c (chain-bounds b bytes (accepted b ok) src dst c h .cost)) (unfold solutionOctets padded octets2 in refl)
+        let s = chain-bounds b bytes (accepted b ok) src dst c h in
+        ap (λ (x : Solution). decimal number ++ item " cost " (x .cost) ++ item " segments " (x .count)) (solution-back c (s .count) (s .cost))
 
     chain-text : solutionLines b number c ≡ textBy (outcome (combinedPath b c)) (leftBy (outcome (combinedPath b c)) pathSize (combinedPath b c)) (solutionOctets c) number
     unfolding solutionLines outcomeLines outcome
@@ -145,7 +146,7 @@ module _ (b : List ℕ) (bytes : Bytes b) (src dst : IsdAsn) (number : ℕ) wher
             ≡ textBy (by l e) (leftBy (by l e) pathSize (combinedPath b c)) (solutionOctets c) number
         go true e = ap (λ l. l ++ (ascii " loop" ++ newline)) (sym start-text)
         go false true = ap (λ l. l ++ (ascii " bare" ++ newline)) (sym start-text)
-        go false false = ap₂ (λ (x : List ℕ) y. x ++ y) (sym start-text) (sym (path-text b c pathSize (path-read b bytes src dst c h pathSize)))
+        go false false = ap₂ (λ (x : List ℕ) y. x ++ y) (sym start-text) (sym (path-text b c pathSize (path-read b bytes c pathSize)))
 
   abbrev answer : List ℕ → Assembled
   answer given = assembly b src dst given pathSize

@@ -4,7 +4,7 @@
 use Prim.Native.Nat.{ℕ, _+_, _*_}
 use mathlib.Core.Bool.{Bool}
 use mathlib.Core.List.{List, [], _∷_, _++_, flatMap}
-use lib.ListN.{length, getD, drop}
+use lib.ListN.{length, drop}
 use lib.Dec.{ltb}
 use Rattle.sha256.specs.Message.{sha256}
 use Rattle.spec.specs.declared.IsdAsn.{IsdAsn}
@@ -18,10 +18,9 @@ use Rattle.spec.specs.declared.ListAnswer.{ListAnswer}
 use Rattle.spec.specs.declared.ListAnswer.the-variants.{Count, Refused as RefusedList}
 use Rattle.spec.specs.Limits.{maxEdges, maxEntries, pathSize}
 use Rattle.spec.specs.Basics.{if_then_else_, filter, range, sameList}
-use Rattle.spec.specs.Octets.{be16}
 use Rattle.spec.specs.Book.{verdict, isdAsnAt}
 use Rattle.spec.specs.Chains.{chains}
-use Rattle.spec.specs.Records.{solutionOctets}
+use Rattle.spec.specs.Records.{solutionOctets, solutionIn}
 use Rattle.spec.specs.Answers.{Listed, refusedList, listing, assembly}
 use Rattle.spec.specs.Printed.{ascii, decimal, item, newline, solutionLines, isPath, refusedLine}
 use Rattle.order.specs.Records.{recordAt}
@@ -31,7 +30,7 @@ use Rattle.printed.specs.Lines.{pathText}
 
 -- its number, cost, edges
 unfoldable pub startText : List ℕ → ℕ → List ℕ
-startText given number = decimal number ++ item " cost " (be16 given 0) ++ item " segments " (getD given 2 0)
+startText given number = decimal number ++ item " cost " (solutionIn given .cost) ++ item " segments " (solutionIn given .count)
 
 -- what is printed of it, for assembly's answer and the path's record that it left
 abbrev pub textBy : PathAnswer → List ℕ → List ℕ → ℕ → List ℕ
@@ -84,24 +83,27 @@ countsLine solutions paths = item "solutions " solutions ++ item " paths " paths
 
 -- ---- an input: source 8, destination 8, then the book
 
+abbrev pub endsSize : ℕ
+endsSize = 8 + 8
+
 module _ (input : List ℕ) where
   -- the lines of the solution in slot k
   unfoldable pub slotText : List ℕ → ℕ → List ℕ
-  slotText records k = solutionText (drop 16 input) (isdAsnAt input 0) (isdAsnAt input 8) (recordAt records k) (k + 1)
+  slotText records k = solutionText (drop endsSize input) (isdAsnAt input 0) (isdAsnAt input 8) (recordAt records k) (k + 1)
 
   -- assembly of the record in slot k answers a path
   unfoldable pub slotHasPath : List ℕ → ℕ → Bool
-  slotHasPath records k = isPath (assembly (drop 16 input) (isdAsnAt input 0) (isdAsnAt input 8) (recordAt records k) pathSize .0)
+  slotHasPath records k = isPath (assembly (drop endsSize input) (isdAsnAt input 0) (isdAsnAt input 8) (recordAt records k) pathSize .0)
 
   -- among so many slots
   unfoldable pub pathsTo : List ℕ → ℕ → ℕ
   pathsTo records n = length (filter (slotHasPath records) (range 0 n))
 
-  -- what listing answers into so many bytes; under 16 bytes is answer 1
+  -- what listing answers into so many bytes; an input without its ends is answer 1
   unfoldable pub listed : ℕ → Listed
   listed bytes =
-      if ltb (length input) 16 then refusedList bytes Cut
-      else listing sha256 (drop 16 input) (isdAsnAt input 0) (isdAsnAt input 8) bytes
+      if ltb (length input) endsSize then refusedList bytes Cut
+      else listing sha256 (drop endsSize input) (isdAsnAt input 0) (isdAsnAt input 8) bytes
 
   -- the first line, for what listing answered
   abbrev pub firstBy : ListAnswer → List ℕ → List ℕ

@@ -1,34 +1,15 @@
 // The first line: the counts, or a refusal.
-ghost use mathlib.Core.Path.{_≡_};
 ghost use Prim.Native.Nat.{_≤_};
-ghost use Rattle.spec.specs.Answers.{refusalNumber};
 ghost use Rattle.spec.specs.Printed.{refusedLine};
 ghost use Rattle.path.specs.Places.{Wrote};
 ghost use Rattle.printed.specs.Pieces.{countsLine, firstLineSize};
 use crate::text;
 use spec::Refusal;
 
-fn number(r: Refusal) -> u64
-    ensures { λ n. ⌜ n ≡ refusalNumber r ⌝ }
-{
-    match r {
-        Refusal::Cut => 1,
-        Refusal::Surplus => 2,
-        Refusal::Oversize => 3,
-        Refusal::Crowded => 4,
-        Refusal::Long => 5,
-        Refusal::Peers => 6,
-        Refusal::Misfit => 7,
-        Refusal::Full => 8,
-        Refusal::Small => 9,
-        Refusal::Stranger => 10,
-    }
-}
-
 pub(crate) fn refused_line(out: &mut [u8], r: Refusal) -> usize
     ensures { λ n. ⌜ Wrote (now (out .entry)) 0 (refusedLine r) (now (out .exit)) n × (n ≤ firstLineSize) ⌝ }
 {
-    let next = text::put_item(out, 0, b"refused ", number(r));
+    let next = text::put_item(out, 0, b"refused ", r.number() as u64);
     text::put_word(out, next, b"\n")
 }
 

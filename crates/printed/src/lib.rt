@@ -8,16 +8,26 @@ ghost use Rattle.printed.specs.Pieces.{listed, countOf, firstLine, first
 
 mod first;
 mod lines;
-mod reading;
 mod slots;
 mod solution;
 mod text;
 
+pub use slots::ENDS;
 use spec::ListAnswer;
+use spec::Path;
 use spec::Solution;
 
-// The longest piece.
-pub const TEXT: usize = 2644;
+// The longest line of an info, of an interface and of a solution, as `specs/Pieces` has them.
+const INFO_LINE: usize = 5 + 1 + 1 + 4 + 1 + 10 + 1;
+
+const INTERFACE_LINE: usize = 3 + 16 + 1 + 5 + 1;
+
+const SOLUTION_LINE: usize = 20 + (6 + 5) + (10 + 1) + (5 + 5) + (8 + 10) + (6 + 2) + 1;
+
+// The longest piece: all lines of a solution.
+pub const TEXT: usize = SOLUTION_LINE
+    + Solution::EDGES * INFO_LINE
+    + Path::INTERFACES * INTERFACE_LINE;
 
 // How long the first line is, and how many solutions follow it.
 pub struct Opening {
@@ -26,7 +36,8 @@ pub struct Opening {
 }
 
 // Lists the solutions of an input (source 8, destination 8, then the book) into `records`, and writes the
-// list's first line into `out`: their count and that of the paths, or a refusal.
+// list's first line into `out`: their count and that of the paths, or a refusal. A piece of a text: demand 1's zeros are for
+// the functions that answer a host (docs/DECISIONS.md).
 pub fn first_line(input: &[u8], records: &mut [u8], out: &mut [u8]) -> Opening
     ensures { λ r. ⌜ (now (records .exit) ≡ listed (now (input .entry)) (length (now (records .entry))) .1) × (r .solutions ≡ countOf (listed (now (input .entry)) (length (now (records .entry))) .0)) × (now (out .exit) ≡ written (now (out .entry)) 0 (firstLine (now (input .entry)) (length (now (records .entry))))) × (r .length ≡ length (firstLine (now (input .entry)) (length (now (records .entry))))) × (r .length ≤ firstLineSize) ⌝ }
 {
@@ -51,11 +62,11 @@ pub fn first_line(input: &[u8], records: &mut [u8], out: &mut [u8]) -> Opening
 }
 
 // Writes the lines of the solution whose record stands in slot k, and answers how long they are. A slot
-// that holds no solution's record has none.
+// that holds no solution's record has none. A piece of a text, like the first line.
 pub fn solution_lines(input: &[u8], records: &[u8], k: usize, out: &mut [u8]) -> usize
     ensures { λ r. ⌜ (now (out .exit) ≡ written (now (out .entry)) 0 (slotText (now (input .entry)) (now (records .entry)) k)) × (r ≡ length (slotText (now (input .entry)) (now (records .entry)) k)) × (r ≤ solutionTextSize) ⌝ }
 {
-    if input.len() < slots::ENDS {
+    if input.len() < ENDS {
         return 0;
     }
     if records.len() / Solution::SIZE <= k {

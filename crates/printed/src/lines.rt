@@ -1,11 +1,10 @@
 // The lines of a path, from its record.
 ghost use mathlib.Core.Path.{_≡_};
 ghost use Prim.Native.Nat.{_+_, _*_, _^_, _≤_, _<_};
-ghost use Rattle.spec.specs.Records.{bit, pathHeadIn};
+ghost use Rattle.spec.specs.Records.{bit};
 ghost use Rattle.spec.specs.Printed.{infoLine, interfaceLine};
 ghost use Rattle.path.specs.Places.{Wrote};
 ghost use Rattle.printed.specs.Lines.{fieldsLine, infoText, interfaceText, linesTo, pathText};
-use crate::reading;
 use crate::text;
 use spec::InfoField;
 use spec::PathInterface;
@@ -52,29 +51,27 @@ fn fields_line(out: &mut [u8], at: usize, mtu: u16, expiry: u32, hops: u8) -> us
     text::put_word(out, last, b"\n")
 }
 
-fn put_infos(path: &[u8], out: &mut [u8], at: usize) -> usize
+fn put_infos(path: &[u8], count: u8, out: &mut [u8], at: usize) -> usize
     requires { ⌜ at < 2 ^ 40 ⌝ }
-    ensures { λ r. ⌜ Wrote (now (out .entry)) at (linesTo (infoText (now (path .entry))) (pathHeadIn (now (path .entry)) .infos)) (now (out .exit)) r × (r ≤ at + 64 * 256) ⌝ }
+    ensures { λ r. ⌜ Wrote (now (out .entry)) at (linesTo (infoText (now (path .entry))) count) (now (out .exit)) r × (r ≤ at + 64 * 256) ⌝ }
 {
-    let count = octets::byte(path, 0);
     let mut to = at;
     let mut k: u8 = 0;
     while k < count {
-        to = info_line(out, to, reading::info(path, k));
+        to = info_line(out, to, records::info(path, k));
         k += 1;
     }
     to
 }
 
-fn put_interfaces(path: &[u8], out: &mut [u8], at: usize) -> usize
+fn put_interfaces(path: &[u8], count: u8, out: &mut [u8], at: usize) -> usize
     requires { ⌜ at < 2 ^ 40 ⌝ }
-    ensures { λ r. ⌜ Wrote (now (out .entry)) at (linesTo (interfaceText (now (path .entry))) (pathHeadIn (now (path .entry)) .interfaces)) (now (out .exit)) r × (r ≤ at + 64 * 256) ⌝ }
+    ensures { λ r. ⌜ Wrote (now (out .entry)) at (linesTo (interfaceText (now (path .entry))) count) (now (out .exit)) r × (r ≤ at + 64 * 256) ⌝ }
 {
-    let count = octets::byte(path, 2);
     let mut to = at;
     let mut k: u8 = 0;
     while k < count {
-        to = interface_line(out, to, reading::interface(path, k));
+        to = interface_line(out, to, records::interface(path, k));
         k += 1;
     }
     to
@@ -85,9 +82,8 @@ pub(crate) fn put_path(path: &[u8], out: &mut [u8], at: usize) -> usize
     requires { ⌜ at < 2 ^ 32 ⌝ }
     ensures { λ r. ⌜ Wrote (now (out .entry)) at (pathText (now (path .entry))) (now (out .exit)) r ⌝ }
 {
-    let mtu = octets::be16(path, 4);
-    let expiry = octets::be32(path, 6);
-    let next = fields_line(out, at, mtu, expiry, octets::byte(path, 1));
-    let then = put_infos(path, out, next);
-    put_interfaces(path, out, then)
+    let head = records::path_head(path);
+    let next = fields_line(out, at, head.mtu, head.expiry, head.hops);
+    let then = put_infos(path, head.infos, out, next);
+    put_interfaces(path, head.interfaces, out, then)
 }

@@ -16,8 +16,8 @@ use spec::PathAnswer;
 fn put_start(given: &[u8], number: u64, out: &mut [u8]) -> usize
     ensures { λ r. ⌜ Wrote (now (out .entry)) 0 (startText (now (given .entry)) number) (now (out .exit)) r × (r ≤ 128) ⌝ }
 {
-    let cost = octets::be16(given, 0);
-    let count = octets::byte(given, 2);
+    let cost = records::cost(given);
+    let count = records::edge_count(given);
     let next = text::put_decimal(out, 0, number);
     let then = text::put_item(out, next, b" cost ", cost as u64);
     text::put_item(out, then, b" segments ", count as u64)

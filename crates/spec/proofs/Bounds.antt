@@ -141,7 +141,7 @@ path-fits b bytes a c most st =
     let n : length (map (infoOn b) c) ≡ length c = length-map c (infoOn b) in
     let h = flat-most (hopsOn b) maxEntries c (λ e m. omega (arith, hops-length (segmentOf b e) e, bound e m .hops)) in
     let i = flat-most (interfacesOn b) (maxEntries * 2) c (λ e m. omega (arith, interfaces-most (segmentOf b e) e, bound e m .hops)) in
-    omega (arith, path-length p (good-hops b bytes c st 0))
+    omega (arith, path-length p (good-hops b bytes c))
 
 -- ---- a chain
 

@@ -1,10 +1,11 @@
 -- Laws of lists that the library lacks.
 -- Assumes nothing.
 use Prim.Native.Nat.{ℕ, zero, suc, _+_, _-_}
-use native.Mathlib.Nat.{add-zero}
+use native.Mathlib.Nat.{add-zero, zero-add}
+use native.Mathlib.Numerals.{add-one}
 use native.Mathlib.Omega.{arith}
 use mathlib.Core.Path.{_≡_, refl, sym, ap, ap₂, _∙_}
-use mathlib.Core.List.{List, [], _∷_, _++_, map, flatMap, reverse, reverse-cons, reverse-append, append-assoc}
+use mathlib.Core.List.{List, [], _∷_, _++_, map, flatMap, reverse, reverse-cons, reverse-append, append-assoc, append-nil}
 use lib.ListN.{length}
 use Rattle.spec.specs.Basics.{range}
 
@@ -68,3 +69,30 @@ module _ {A B : Type 0} (f : A → List B) where
   unfolding flatMap
   flatMap-append [] ys = refl
   flatMap-append (x ∷ xs) ys = ap (λ l. f x ++ l) (flatMap-append xs ys) ∙ sym (append-assoc (f x) (flatMap f xs) (flatMap f ys))
+
+  pub flat-one : (x : A) → flatMap f (x ∷ []) ≡ f x
+  unfolding flatMap
+  flat-one x = append-nil (f x)
+
+-- one more of a range
+pub map-range-last : {A : Type 0} (f : ℕ → A) (k : ℕ) → map f (range 0 (k + 1)) ≡ map f (range 0 k) ++ (f k ∷ [])
+map-range-last f k =
+    ap (λ n. map f (range 0 n)) (add-one k) ∙ ap (map f) (range-suc 0 k) ∙ map-append f (range 0 k) ((0 + k) ∷ [])
+    ∙ ap (λ i. map f (range 0 k) ++ (f i ∷ [])) (zero-add k)
+
+pub flat-range-last : {A : Type 0} (f : ℕ → List A) (k : ℕ) → flatMap f (range 0 (k + 1)) ≡ flatMap f (range 0 k) ++ f k
+flat-range-last f k =
+    ap (λ n. flatMap f (range 0 n)) (add-one k) ∙ ap (flatMap f) (range-suc 0 k) ∙ flatMap-append f (range 0 k) ((0 + k) ∷ [])
+    ∙ ap (λ l. flatMap f (range 0 k) ++ l) (flat-one f (0 + k) ∙ ap f (zero-add k))
+
+-- two in a row
+module _ {A B C : Type 0} where
+  pub flat-map : (f : A → B) (g : B → List C) (xs : List A) → flatMap g (map f xs) ≡ flatMap (λ x. g (f x)) xs
+  unfolding flatMap
+  flat-map f g [] = refl
+  flat-map f g (x ∷ xs) = ap (λ l. g (f x) ++ l) (flat-map f g xs)
+
+  pub flat-flat : (f : A → List B) (g : B → List C) (xs : List A) → flatMap g (flatMap f xs) ≡ flatMap (λ x. flatMap g (f x)) xs
+  unfolding flatMap
+  flat-flat f g [] = refl
+  flat-flat f g (x ∷ xs) = flatMap-append g (f x) (flatMap f xs) ∙ ap (λ l. flatMap g (f x) ++ l) (flat-flat f g xs)

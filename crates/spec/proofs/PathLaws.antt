@@ -144,7 +144,7 @@ module _ (b : List ℕ) where
   hop-lists [] st = refl
   hop-lists (e ∷ c) st = ap₂ (λ x y. x ++ y) (hops-entries (segmentOf b e) e (along b e (st e (head refl)))) (hop-lists c (λ f m. st f (tail m)))
 
-module _ (b : List ℕ) (bytes : Bytes b) (c : List Edge) (st : (e : Edge) → Mem e c → Stored b e) (n : ℕ) where
+module _ (b : List ℕ) (bytes : Bytes b) (c : List Edge) where
   abbrev path : CombinedPath
   path = combinedPath b c
 
@@ -156,9 +156,9 @@ module _ (b : List ℕ) (bytes : Bytes b) (c : List Edge) (st : (e : Edge) → M
   unfolding combinedPath hopsOn segmentOf
   good-hops h m = let w = flatMap-mem (hopsOn b) c m in hops-good b bytes (w .0 .position) (w .0) (w .2)
 
-  pub router-agrees : RouterAgrees b c (padded n (pathOctets (combinedPath b c)))
+  pub router-agrees : ((e : Edge) → Mem e c → Stored b e) → (n : ℕ) → RouterAgrees b c (padded n (pathOctets (combinedPath b c)))
   unfolding combinedPath routerIds
-  router-agrees =
+  router-agrees st n =
       record {
         infos = ap (map shapeOf) (infos-back path n good-infos) ∙ shapes b c st;
         hops = hops-back path n good-hops ∙ hop-lists b c st;

@@ -18,16 +18,15 @@ use Rattle.spec.specs.Basics.{range, padded}
 use Rattle.spec.specs.Octets.{Bytes, be16, be32, be64, octets2, octets4, octets8}
 use Rattle.spec.specs.Book.{Entry, Segment, segmentAt, entryCountAt, entryAt, entryOffset, bodyOffset, asEntryAt, isdAsnAt}
 use Rattle.spec.specs.Edges.{asOf}
-use Rattle.spec.specs.Chains.{IsChain}
 use Rattle.spec.specs.Order.{cost, solutionEdge}
 use Rattle.spec.specs.Assembly.{least, interfaceIf, hopCount, usedEntries, hopOf, interfacesAt, interfacesOf, inDirection, segmentOf, interfacesOn, mtusOn, expiryOn, CombinedPath, combinedPath}
 use Rattle.spec.specs.Records.{bit, edgeOctets, edgeAt, edgeOffset, recordEdge, noEdge, solutionOctets, solutionIn, solutionOf, infoOctets, hopOctets, asOctets, interfaceAsOctets, interfaceIdOctets, noInterface, pathHead, pathHeadOctets, pathOctets, pathHeadIn, asesOffset, idsOffset, recordInterface, interfacesIn}
 use Rattle.spec.specs.Router.{infosIn, hopsIn}
 use Rattle.spec.proofs.Membership.{map-mem, flatMap-mem}
-use Rattle.spec.proofs.Lists.{flatMap-append}
+use Rattle.spec.proofs.Lists.{flatMap-append, flat-map}
 use Rattle.spec.proofs.OnceLaws.{reverse-mem, range-mem}
 use Rattle.spec.proofs.ByteLaws.{GoodHop, octets2-back, octets4-back, octets8-back, be16-shift, isdAsnAt-shift, info-length, hop-length, read-all, edgeAt-shift, edge-back, edge-length, cost-back}
-use Rattle.spec.proofs.BookLaws.{be32-lt, Stored, stored, segment-length, hop-good}
+use Rattle.spec.proofs.BookLaws.{be32-lt, segment-length, hop-good}
 use Rattle.spec.proofs.BodyLaws.{entry-at}
 use Rattle.spec.proofs.PathLaws.{head-length, infos-back, hops-back, good-infos, good-hops}
 use Rattle.spec.proofs.Bounds.{flat-exact}
@@ -115,11 +114,6 @@ both-read f g (k ∷ ks) [] p q = absurd (omega (arith, ap length p))
 both-read f g (k ∷ ks) (i ∷ is) p q =
     ap₂ {B = List PathInterface} (λ (a : PathInterface) l. a ∷ l) (λ t. record { local = head-eq-of-cons-eq p t; id = head-eq-of-cons-eq q t })
     (both-read f g ks is (tail-eq-of-cons-eq p) (tail-eq-of-cons-eq q))
-
-pub flat-map : {A B : Type 0} (f : A → B) (g : B → List ℕ) (xs : List A) → flatMap g (map f xs) ≡ flatMap (λ x. g (f x)) xs
-unfolding flatMap
-flat-map f g [] = refl
-flat-map f g (x ∷ xs) = ap (λ l. g (f x) ++ l) (flat-map f g xs)
 
 pub ases-flat : (is : List PathInterface) → flatMap interfaceAsOctets is ≡ flatMap asOctets (map localOf is)
 unfolding interfaceAsOctets
@@ -295,16 +289,15 @@ pub record PathRead (b : List ℕ) (c : List Edge) (n : ℕ) : Type 0 where
   pub hops : hopsIn (padded n (pathOctets (combinedPath b c))) ≡ combinedPath b c .hops
   pub interfaces : interfacesIn (padded n (pathOctets (combinedPath b c))) ≡ combinedPath b c .interfaces
 
--- so for every chain, whether the book is accepted or not
-pub path-read : (b : List ℕ) → Bytes b → (src dst : IsdAsn) (c : List Edge) → IsChain b src dst c → (n : ℕ) → PathRead b c n
-path-read b bytes src dst c h n =
+-- so for any edges, whether the book is accepted or not
+pub path-read : (b : List ℕ) → Bytes b → (c : List Edge) (n : ℕ) → PathRead b c n
+path-read b bytes c n =
     let p : CombinedPath = combinedPath b c in
-    let st : (e : Edge) → Mem e c → Stored b e = λ e m. stored b (h .stored e m) in
-    let hops : (x : HopField) → Mem x (p .hops) → GoodHop x = good-hops b bytes c st n in
+    let hops : (x : HopField) → Mem x (p .hops) → GoodHop x = good-hops b bytes c in
     let interfaces : (i : PathInterface) → Mem i (p .interfaces) → GoodInterface i = good-interfaces b bytes c in
     record {
       head = head-back p n interfaces (mtu-lt b c) (expiry-lt b c);
-      infos = infos-back p n (good-infos b bytes c st n);
+      infos = infos-back p n (good-infos b bytes c);
       hops = hops-back p n hops;
       interfaces = interfaces-back p n interfaces hops;
     }

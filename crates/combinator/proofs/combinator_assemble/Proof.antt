@@ -18,7 +18,7 @@ returns-3 : tie.Need-returns-3
 returns-3 c = path-number _ _ _ _ _ _ _ (c .before .before .before .before .assemble .ensures) _ _ (c .enum-told3 .given .1) refl
 
 returns-4 : tie.Need-returns-4
-returns-4 c = path-number _ _ _ _ _ _ _ (c .before .before .before .before .before .before .assemble .ensures) _ _ (c .before .before .answer .given .1) (ap (λ n. refusals + n) (c .refusal-number .ensures .0))
+returns-4 c = path-number _ _ _ _ _ _ _ (c .before .before .before .before .before .before .assemble .ensures) _ _ (c .before .before .answer .given .1) (ap (λ n. refusals + n) (c .number .ensures .0))
 
 pub combinator-assemble-spec : {M : Type 1} → statement M
 combinator-assemble-spec =

@@ -13,7 +13,7 @@ returns : tie.Need-returns
 returns c = list-count _ _ _ _ _ _ (c .before .before .before .before .before .list .ensures) _ (c .before .answer .given .1)
 
 returns-2 : tie.Need-returns-2
-returns-2 c = list-refusal _ _ _ _ _ _ (c .before .before .before .before .before .before .list .ensures) _ _ (c .before .before .answer2 .given .1) (c .refusal-number .ensures .0)
+returns-2 c = list-refusal _ _ _ _ _ _ (c .before .before .before .before .before .before .list .ensures) _ _ (c .before .before .answer2 .given .1) (c .number .ensures .0)
 
 pub combinator-list-spec : {M : Type 1} → statement M
 combinator-list-spec =

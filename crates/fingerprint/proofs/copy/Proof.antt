@@ -4,8 +4,7 @@ use mathlib.Core.Path.{_≡_, refl, _∙_}
 use Prim.Native.Nat.{_-_, _≤_}
 use native.Mathlib.Omega.{arith}
 use lib.ListN.{length, length-set}
-use Rattle.output.proofs.Writing.{copied, copied-none, copied-more}
-use Rattle.fingerprint.proofs.Printing.{copied-end}
+use Rattle.output.proofs.Writing.{copied, copied-none, copied-more, copied-done}
 use Rattle.fingerprint.proofs.copy.Statement.{statement}
 use Rattle.fingerprint.proofs.copy.Tie as tie
 
@@ -43,7 +42,7 @@ same-length : tie.Need-same-length Inv-loop μ-loop
 same-length c = c .before .loop .inv .2
 
 returns : tie.Need-returns Inv-loop μ-loop
-returns c = c .before .loop .inv .0 ∙ copied-end _ _ _ _ _ _ (c .before .loop .inv .1) (c .loop-test .left)
+returns c = c .before .loop .inv .0 ∙ copied-done _ _ _ _ _ _ (c .before .loop .inv .1) (c .loop-test .left)
 
 pub copy-spec : {M : Type 1} → statement M
 copy-spec =

@@ -1,20 +1,10 @@
 -- `print` meets its contract.
 -- Assumes nothing.
 use native.Mathlib.Omega.{arith}
-use mathlib.Core.Path.{sym}
 use Rattle.list.proofs.Fronts.{whole-long}
 use borrow.Author.Needs.{needs}
 use Rattle.list.proofs.print.Statement.{statement}
 use Rattle.list.proofs.print.Tie as tie
-
-slice-aggregate-print-first : tie.Need-slice-aggregate-print-first
-slice-aggregate-print-first c = c .before .large-buffer .ensures
-
-print-first-requires : tie.Need-print-first-requires
-print-first-requires c κs = sym (c .before .large-buffer .ensures)
-
-slice-aggregate-print-slots : tie.Need-slice-aggregate-print-slots
-slice-aggregate-print-slots c = omega (arith, c .before .before .print-first .kept .1 .0, c .before .before .before .before .large-buffer .ensures)
 
 print-slots-requires : tie.Need-print-slots-requires
 print-slots-requires c κs = (c .before .before .print-first .ensures .0 .1, c .before .before .print-first .ensures .0 .0)
@@ -24,16 +14,15 @@ add-result c = omega (arith, c .before .print-slots .ensures .1, c .before .befo
 
 returns : tie.Need-returns
 returns c =
-    omega (arith, c .before .before .before .before .print-first .ensures .1 .0, c .before .print-slots .ensures .0, whole-long (c .before .before .before .before .before .before .before .before .args .input .now) (c .before .before .before .before .print-first .last .1 .0) (c .before .before .before .before .print-first .ensures .0 .1) (c .before .before .before .before .print-first .result .solutions) (c .before .before .before .before .print-first .ensures .0 .0))
+    omega (arith, c .before .before .before .before .print-first .ensures .1 .0, c .before .print-slots .ensures .0, whole-long (c .before .before .before .before .before .before .before .args .input .now) (c .before .before .before .before .print-first .last .1 .0) (c .before .before .before .before .print-first .ensures .0 .1) (c .before .before .before .before .print-first .result .solutions) (c .before .before .before .before .print-first .ensures .0 .0))
 
 pub print-spec : {M : Type 1} → statement M
 print-spec =
     tie.close
     (tie.spec
+    (λ c. search needs)
     (λ c κs. search needs)
-    slice-aggregate-print-first
-    print-first-requires
-    slice-aggregate-print-slots
+    (λ c. search needs)
     print-slots-requires
     add-result
     returns)

@@ -1,6 +1,6 @@
 -- `assemble` meets its contract.
 -- Assumes nothing.
-use Rattle.path.proofs.Answering.{chain-usable, table-ready, refused-answer, small-answer, stranger-answer, path-answer}
+use Rattle.path.proofs.Answering.{chain-in-book, table-ready, refused-answer, small-answer, stranger-answer, path-answer}
 use Rattle.graph.proofs.RecordedLaws.{said-edges}
 use borrow.Author.Needs.{needs}
 use Rattle.path.proofs.assemble.Statement.{statement}
@@ -18,7 +18,7 @@ returns-3 c = stranger-answer _ _ _ _ (c .before .before .before .before .before
 build-requires : tie.Need-build-requires
 build-requires c κs =
     let said = said-edges _ _ _ _ _ (c .before .before .before .before .before .before .before .chain-of .ensures .0) _ (c .before .before .before .chain2 .given .1) in
-    (table-ready _ _ (said .1 .ok) (c .before .before .before .before .before .before .before .chain-of .ensures .1), (chain-usable _ _ _ _ _ said, c .before .before .before .before .before .if1 .left))
+    (table-ready _ _ (said .1 .ok) (c .before .before .before .before .before .before .before .chain-of .ensures .1), (chain-in-book _ _ _ _ _ said, c .before .before .before .before .before .if1 .left))
 
 returns-4 : tie.Need-returns-4
 returns-4 c =

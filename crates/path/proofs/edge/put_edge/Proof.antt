@@ -4,10 +4,11 @@ use Prim.Native.Nat.{_+_, _-_, _*_, _≤_}
 use native.Mathlib.Omega.{arith}
 use mathlib.Core.Path.{_∙_}
 use Rattle.spec.specs.Limits.{hopSize}
-use Rattle.path.specs.Usable.{edgeBy}
+use Rattle.path.specs.Edges.{edgeBy}
 use Rattle.path.specs.Parts.{walked, walkedMtus, walkedUnits, Walked}
 use Rattle.path.proofs.Standing.{entry-from}
 use Rattle.path.proofs.Walking.{hops-are, walk-none, walk-more, walk-all}
+use Rattle.path.specs.Places.{entryAses, entryIds}
 use borrow.Author.Needs.{needs}
 use Rattle.path.proofs.edge.put_edge.Statement.{statement}
 use Rattle.path.proofs.edge.put_edge.Tie as tie
@@ -15,7 +16,7 @@ use Rattle.path.proofs.edge.put_edge.Tie as tie
 abbrev Inv-loop : tie.InvT-loop
 Inv-loop book table e out₀ ases₀ ids₀ n hops w₀ j₀ out ases ids w j =
     Walked (λ part. walked book (edgeBy e) part j) (walkedMtus book (edgeBy e) j) (walkedUnits book (edgeBy e) j) out₀ out ases₀ ases ids₀ ids w₀ w
-    × (j ≤ hops) × (w .hops ≤ w₀ .hops + hopSize * j) × (w .ases ≤ w₀ .ases + 16 * j) × (w .ids ≤ w₀ .ids + 4 * j)
+    × (j ≤ hops) × (w .hops ≤ w₀ .hops + hopSize * j) × (w .ases ≤ w₀ .ases + entryAses * j) × (w .ids ≤ w₀ .ids + entryIds * j)
 
 abbrev μ-loop : tie.MeasureT-loop
 μ-loop book table e out₀ ases₀ ids₀ n hops w₀ j₀ out ases ids w j = hops - j

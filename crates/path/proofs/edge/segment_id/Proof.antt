@@ -5,7 +5,7 @@ use native.Mathlib.Omega.{arith}
 use mathlib.Core.Path.{_≡_}
 use Rattle.spec.specs.Assembly.{idBelow, segmentOf}
 use Rattle.path.proofs.Walking.{id-none, id-more, id-all, stop-all}
-use Rattle.path.specs.Usable.{edgeBy}
+use Rattle.path.specs.Edges.{edgeBy}
 use borrow.Author.Needs.{needs}
 use Rattle.path.proofs.edge.segment_id.Statement.{statement}
 use Rattle.path.proofs.edge.segment_id.Tie as tie

@@ -3,7 +3,7 @@
 use native.Mathlib.Omega.{arith}
 use mathlib.Core.Path.{sym, _∙_}
 use Rattle.path.proofs.Standing.{link-mtu-read, ingress-mtu-read}
-use Rattle.path.proofs.Showing.{link-peer, link-left, link-inner}
+use Rattle.path.proofs.Showing.{link-peer, link-shortcut, link-regular}
 use borrow.Author.Needs.{needs}
 use Rattle.path.proofs.entry.link_mtu.Statement.{statement}
 use Rattle.path.proofs.entry.link_mtu.Tie as tie
@@ -20,12 +20,12 @@ returns c =
     link-peer _ _ _ q _ (c .read16 .ensures ∙ (rw (c .before .link-offset .ensures .0) (link-mtu-read _ _ _ _ (c .before .before .before .before .before .pre .0) q))) (omega arith)
 
 returns-2 : tie.Need-returns-2
-returns-2 c = link-left _ _ _ (sym (c .before .before .before .is-peer-hop .ensures) ∙ c .before .before .if1 .left) (sym (c .before .is-left .ensures) ∙ c .if2 .taken)
+returns-2 c = link-shortcut _ _ _ (sym (c .before .before .before .is-peer-hop .ensures) ∙ c .before .before .if1 .left) (sym (c .before .is-inner-shortcut .ensures) ∙ c .if2 .taken)
 
 returns-3 : tie.Need-returns-3
 returns-3 c =
-    link-inner _ _ _ (sym (c .before .before .before .before .before .is-peer-hop .ensures) ∙ c .before .before .before .before .if1 .left) (sym (c .before .before .before .is-left .ensures) ∙ c .before .before .if2 .left) _ _
-    (c .before .read162 .ensures ∙ ingress-mtu-read _ _ _ _ (c .before .before .before .before .before .before .before .pre .0)) (omega arith) (c .or-most .ensures)
+    link-regular _ _ _ (sym (c .before .before .before .before .before .is-peer-hop .ensures) ∙ c .before .before .before .before .if1 .left) (sym (c .before .before .before .is-inner-shortcut .ensures) ∙ c .before .before .if2 .left) _ _
+    (c .before .read162 .ensures ∙ ingress-mtu-read _ _ _ _ (c .before .before .before .before .before .before .before .pre .0)) (omega arith) (c .or-max .ensures)
 
 pub link-mtu-spec : {M : Type 1} → statement M
 link-mtu-spec =

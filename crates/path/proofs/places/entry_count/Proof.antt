@@ -6,15 +6,6 @@ use borrow.Author.Needs.{needs}
 use Rattle.path.proofs.places.entry_count.Statement.{statement}
 use Rattle.path.proofs.places.entry_count.Tie as tie
 
-cast-result : tie.Need-cast-result
-cast-result c = search needs
-
-mul-result : tie.Need-mul-result
-mul-result c = search needs
-
-add-result : tie.Need-add-result
-add-result c = search needs
-
 shared-slice-read-result : tie.Need-shared-slice-read-result
 shared-slice-read-result c = count-within _ (c .before .before .pre .0) _ (c .before .before .pre .1)
 
@@ -29,4 +20,4 @@ returns c =
 pub entry-count-spec : {M : Type 1} → statement M
 entry-count-spec =
     tie.close
-    (tie.spec cast-result mul-result add-result shared-slice-read-result cast-result-2 returns)
+    (tie.spec (λ c. search needs) (λ c. search needs) (λ c. search needs) shared-slice-read-result cast-result-2 returns)

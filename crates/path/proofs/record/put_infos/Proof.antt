@@ -6,10 +6,10 @@ use mathlib.Core.Path.{_≡_, refl}
 use mathlib.Core.List.{flatMap}
 use lib.ListN.{length}
 use Rattle.spec.specs.Limits.{infoSize}
+use Rattle.path.specs.Edges.{edgesIn}
 use Rattle.path.specs.Places.{Wrote}
 use Rattle.path.specs.Parts.{infoBytes}
-use Rattle.path.specs.Whole.{edgesIn}
-use Rattle.path.proofs.Chaining.{few-edges, edge-fits, edge-usable, all-none, all-more, all-done}
+use Rattle.path.proofs.Chaining.{few-edges, edge-fits, edge-in-book, all-none, all-more, all-done}
 use borrow.Author.Needs.{needs}
 use Rattle.path.proofs.record.put_infos.Statement.{statement}
 use Rattle.path.proofs.record.put_infos.Tie as tie
@@ -27,13 +27,7 @@ edge-in-requires : tie.Need-edge-in-requires Inv-loop μ-loop
 edge-in-requires c κs = edge-fits _ _ _ (c .before .before .before .before .before .pre .1 .0) _ (c .loop-test .taken)
 
 put-info-requires : tie.Need-put-info-requires Inv-loop μ-loop
-put-info-requires c κs = (c .before .before .before .before .before .before .before .pre .0, (edge-usable _ _ _ (c .before .before .before .before .before .before .before .pre .1 .0) _ (c .before .before .loop-test .taken) _ (c .before .edge-in .ensures), omega (arith, few-edges _ _ _ (c .before .before .before .before .before .before .before .pre .1 .0))))
-
-add-x : tie.Need-add-x Inv-loop μ-loop
-add-x c = search needs
-
-loop-less : tie.Need-loop-less Inv-loop μ-loop
-loop-less c = search needs
+put-info-requires c κs = (c .before .before .before .before .before .before .before .pre .0, (edge-in-book _ _ _ (c .before .before .before .before .before .before .before .pre .1 .0) _ (c .before .before .loop-test .taken) _ (c .before .edge-in .ensures), omega (arith, few-edges _ _ _ (c .before .before .before .before .before .before .before .pre .1 .0))))
 
 loop-again : tie.Need-loop-again Inv-loop μ-loop
 loop-again c = (all-more _ _ _ _ (c .before .before .before .before .edge-in .ensures) (c .before .before .before .before .before .before .loop .inv .0) (c .before .before .put-info .ensures .0), omega arith, omega arith, omega arith)
@@ -53,8 +47,8 @@ put-infos-spec =
     loop-holds
     edge-in-requires
     put-info-requires
-    add-x
-    loop-less
+    (λ c. search needs)
+    (λ c. search needs)
     loop-again
     same-length
     returns)

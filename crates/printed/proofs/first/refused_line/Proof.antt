@@ -15,7 +15,7 @@ put-word-requires c κs = omega arith
 returns : tie.Need-returns
 unfolding refusedLine item ascii newline
 returns c = (
-  wrote-join (wrote-as (ap (λ n. ascii "refused " ++ decimal n) (c .before .before .before .before .before .before .before .before .number .ensures)) (c .before .before .before .before .before .before .before .put-item .ensures .0)) (c .before .before .put-word .ensures),
+  wrote-join (wrote-as (ap (λ n. ascii "refused " ++ decimal n) (c .before .before .before .before .before .before .before .before .number .ensures .0)) (c .before .before .before .before .before .before .before .put-item .ensures .0)) (c .before .before .put-word .ensures),
   omega (arith, c .before .before .before .before .before .before .before .put-item .ensures .1, c .before .before .put-word .ensures .end),
 )
 
@@ -25,6 +25,7 @@ refused-line-spec =
     (tie.spec
     (λ c. search needs)
     (λ c κs. search needs)
+    (λ c. search needs)
     (λ c κs. search needs)
     (λ c. search needs)
     put-word-requires

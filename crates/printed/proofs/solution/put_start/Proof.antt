@@ -20,8 +20,8 @@ returns : tie.Need-returns
 unfolding startText item ascii
 returns c = (
   wrote-join (wrote-join (c .before .before .before .before .before .before .before .before .before .before .before .before .put-decimal .ensures .0)
-      (wrote-as (ap (λ n. ascii " cost " ++ decimal n) (c .before .before .before .before .before .before .before .before .before .before .before .before .before .before .before .be16 .ensures)) (c .before .before .before .before .before .before .before .put-item .ensures .0)))
-      (wrote-as (ap (λ n. ascii " segments " ++ decimal n) (c .before .before .before .before .before .before .before .before .before .before .before .before .before .before .byte .ensures)) (c .before .before .put-item2 .ensures .0)),
+      (wrote-as (ap (λ n. ascii " cost " ++ decimal n) (c .before .before .before .before .before .before .before .before .before .before .before .before .before .before .before .cost .ensures)) (c .before .before .before .before .before .before .before .put-item .ensures .0)))
+      (wrote-as (ap (λ n. ascii " segments " ++ decimal n) (c .before .before .before .before .before .before .before .before .before .before .before .before .before .before .edge-count .ensures)) (c .before .before .put-item2 .ensures .0)),
   omega (arith, c .before .before .before .before .before .before .before .before .before .before .before .before .put-decimal .ensures .1, c .before .before .before .before .before .before .before .put-item .ensures .1, c .before .before .put-item2 .ensures .1),
 )
 

@@ -3,11 +3,11 @@
 use Prim.Native.Nat.{_+_, _*_}
 use native.Mathlib.Omega.{arith}
 use mathlib.Core.Path.{_≡_, refl, _∙_}
-use Rattle.path.specs.Whole.{numbersIn, timesIn}
-use Rattle.path.proofs.Repeats.{times-found, times-passed, times-end, more-after, more-false}
+use Rattle.path.specs.Thrice.{numbersIn, timesIn}
+use Rattle.path.proofs.Thrice.{times-found, times-passed, times-end, more-after, more-false}
 use borrow.Author.Needs.{needs}
-use Rattle.path.proofs.frequent.is_repeated.Statement.{statement}
-use Rattle.path.proofs.frequent.is_repeated.Tie as tie
+use Rattle.path.proofs.loop_test.is_repeated.Statement.{statement}
+use Rattle.path.proofs.loop_test.is_repeated.Tie as tie
 
 abbrev Inv-loop : tie.InvT-loop
 Inv-loop out at count x next₀ left₀ next left = (timesIn x (numbersIn out at count) ≡ timesIn x (numbersIn out next left)) × (next + 8 * left ≡ at + 8 * count)

@@ -1,10 +1,10 @@
--- `run_of` meets its contract.
+-- `run_length` meets its contract.
 -- Assumes nothing.
 use mathlib.Core.Path.{refl}
-use Rattle.path.proofs.Repeats.{run-one, run-two}
+use Rattle.path.proofs.Thrice.{run-one, run-two}
 use borrow.Author.Needs.{needs}
-use Rattle.path.proofs.frequent.run_of.Statement.{statement}
-use Rattle.path.proofs.frequent.run_of.Tie as tie
+use Rattle.path.proofs.loop_test.run_length.Statement.{statement}
+use Rattle.path.proofs.loop_test.run_length.Tie as tie
 
 returns : tie.Need-returns
 returns c = run-one _ _ _ _ (c .before .before .pre .1 .1 .1) (c .before .before .pre .1 .1 .0) _ refl
@@ -15,8 +15,8 @@ returns-2 c = run-two _ _ _ _ _ (c .before .before .before .before .pre .1 .1 .1
 returns-3 : tie.Need-returns-3
 returns-3 c = run-one _ _ _ _ (c .before .before .before .before .pre .1 .1 .1) (c .before .before .before .before .pre .1 .1 .0) _ refl
 
-pub run-of-spec : {M : Type 1} → statement M
-run-of-spec =
+pub run-length-spec : {M : Type 1} → statement M
+run-length-spec =
     tie.close
     (tie.spec
     returns

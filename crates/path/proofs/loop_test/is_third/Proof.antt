@@ -1,9 +1,9 @@
 -- `is_third` meets its contract.
 -- Assumes nothing.
-use Rattle.path.proofs.Repeats.{third-one, third-two}
+use Rattle.path.proofs.Thrice.{third-one, third-two}
 use borrow.Author.Needs.{needs}
-use Rattle.path.proofs.frequent.is_third.Statement.{statement}
-use Rattle.path.proofs.frequent.is_third.Tie as tie
+use Rattle.path.proofs.loop_test.is_third.Statement.{statement}
+use Rattle.path.proofs.loop_test.is_third.Tie as tie
 
 returns : tie.Need-returns
 returns c = third-one _ _ _ (c .before .before .before .pre .1 .1 .0) (c .before .if1 .taken) (c .is-repeated .ensures)

@@ -1,10 +1,10 @@
-// Whether some AS stands more than twice among the numbers of a record: whether two after some number equal it.
+// Whether a path is Loop: some AS stands three times among those of its interfaces.
 ghost use mathlib.Core.Path.{_≡_};
 ghost use Prim.Native.Nat.{_+_, _-_, _*_, _^_, _≤_, _<_};
 ghost use lib.ListN.{length};
 ghost use lib.Dec.{ltb};
 ghost use Rattle.spec.specs.Octets.{be64};
-ghost use Rattle.path.specs.Whole.{numbersIn, timesIn, someFrequent, Run};
+ghost use Rattle.path.specs.Thrice.{numbersIn, timesIn, someThrice, Run};
 use crate::within;
 
 // x is among the `count` numbers from `at` on.
@@ -44,7 +44,7 @@ fn is_repeated(out: &[u8], at: usize, count: usize, x: u64) -> bool
 }
 
 // How many of the first two numbers are x, of which the first is.
-fn run_of(out: &[u8], at: usize, count: usize, x: u64) -> usize
+fn run_length(out: &[u8], at: usize, count: usize, x: u64) -> usize
     requires { ⌜ at + 8 * count ≤ length (now out) ⌝ }
     requires { ⌜ at + 8 * count < 2 ^ 32 ⌝ }
     requires { ⌜ 0 < count ⌝ }
@@ -60,7 +60,7 @@ fn run_of(out: &[u8], at: usize, count: usize, x: u64) -> usize
     1
 }
 
-// With `run` more, x stands more than twice.
+// With `run` more, x stands three times.
 fn is_third(out: &[u8], at: usize, count: usize, x: u64, run: usize) -> bool
     requires { ⌜ at + 8 * count ≤ length (now out) ⌝ }
     requires { ⌜ at + 8 * count < 2 ^ 32 ⌝ }
@@ -73,17 +73,17 @@ fn is_third(out: &[u8], at: usize, count: usize, x: u64, run: usize) -> bool
     is_among(out, at, count, x)
 }
 
-// Some number stands more than twice among them. Where two in a row are the same, the second needs no search.
-pub(crate) fn is_frequent(out: &[u8], at: usize, count: usize) -> bool
+// Some number stands three times among them. Where two in a row are the same, the second needs no search.
+pub(crate) fn is_loop(out: &[u8], at: usize, count: usize) -> bool
     requires { ⌜ at + 8 * count ≤ length (now out) ⌝ }
     requires { ⌜ at + 8 * count < 2 ^ 32 ⌝ }
-    ensures { λ r. ⌜ r ≡ someFrequent (numbersIn (now (out .entry)) at count) (numbersIn (now (out .entry)) at count) ⌝ }
+    ensures { λ r. ⌜ r ≡ someThrice (numbersIn (now (out .entry)) at count) ⌝ }
 {
     let mut next = at;
     let mut left = count;
     while left > 0 {
         let x = within::read64(out, next);
-        let run = run_of(out, next, left, x);
+        let run = run_length(out, next, left, x);
         next += 8 * run;
         left -= run;
         if is_third(out, next, left, x, run) {
