@@ -1,7 +1,7 @@
 -- The limits and sizes as one value, which the code's constants are held to.
 -- Assumes nothing.
 use Rattle.spec.specs.declared.Limits.{Limits}
-use Rattle.spec.specs.Limits.{maxBook, maxSegments, maxEntries, maxPeers, maxSlots, sizesSize, headSize, entrySize, peerSize, solutionSize, pathSize}
+use Rattle.spec.specs.Limits.{maxBook, maxSegments, maxEntries, maxPeers, maxSlots, sizesSize, headSize, entrySize, peerCountOffset, peerSize, maxEdges, edgeSize, solutionHeadSize, solutionSize, infoSize, hopSize, interfaceSize, pathHeadSize, pathSize}
 
 abbrev pub limits : Limits
 limits =
@@ -14,7 +14,15 @@ limits =
       sizes = sizesSize;
       head = headSize;
       entry = entrySize;
+      «peer_count» = peerCountOffset;
       peer = peerSize;
+      edges = maxEdges;
+      edge = edgeSize;
+      «solution_head» = solutionHeadSize;
       solution = solutionSize;
+      info = infoSize;
+      hop = hopSize;
+      interface = interfaceSize;
+      «path_head» = pathHeadSize;
       path = pathSize;
     }

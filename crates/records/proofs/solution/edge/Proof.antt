@@ -1,0 +1,25 @@
+-- Four bytes of the record.
+-- Assumes nothing.
+use Rattle.spec.specs.Records.{recordEdge, edgeAt, edgeOffset}
+use borrow.Author.Needs.{needs}
+use Rattle.records.proofs.solution.edge.Statement.{statement}
+use Rattle.records.proofs.solution.edge.Tie as tie
+
+returns : tie.Need-returns
+unfolding recordEdge edgeAt edgeOffset
+returns c = cc
+
+pub edge-spec : {M : Type 1} → statement M
+edge-spec =
+    tie.close
+    (tie.spec
+    (λ c. search needs)
+    (λ c. search needs)
+    (λ c. search needs)
+    (λ c κs. search needs)
+    (λ c κs. search needs)
+    (λ c. search needs)
+    (λ c κs. search needs)
+    (λ c. search needs)
+    (λ c κs. search needs)
+    returns)
