@@ -3,16 +3,12 @@
 use Prim.Native.Nat.{ℕ, _+_, _≤_, min}
 use native.Mathlib.Decide.{decLe}
 use native.Mathlib.Omega.{arith}
-use mathlib.Core.Path.{_≡_, refl, sym, ap, _∙_}
-use mathlib.Core.List.{List, _++_, flatMap}
+use mathlib.Core.Path.{_≡_, sym, ap, _∙_}
+use mathlib.Core.List.{List, _++_}
 use lib.ListN.{length, length-append}
-use Rattle.spec.specs.declared.Solution.{Solution}
-use Rattle.spec.specs.Limits.{maxEdges}
-use Rattle.spec.specs.Basics.{range}
-use Rattle.spec.specs.Records.{edgeOctets}
 use Rattle.output.specs.Write.{written}
 use Rattle.output.proofs.Writing.{written-join, written-length, written-past}
-use Rattle.builder.specs.Layout.{appended, edgeOctetsOf}
+use Rattle.builder.specs.Layout.{appended}
 
 -- what a function that writes k bytes leaves
 pub wrote : (d d₁ : List ℕ) (at r k : ℕ) (xs : List ℕ) → length xs ≡ k → d₁ ≡ written d at xs → r ≡ min (length d₁) (at + k) → (d₁, r) ≡ appended d at xs
@@ -42,8 +38,3 @@ next d d₁ at r₁ xs ys end p q =
     let bytes : written d₁ r₁ ys ≡ written d at (xs ++ ys) = rw (w, e) (joined d at xs ys) in
     let end : min (length d₁) (r₁ + length ys) ≡ min (length d) (at + length (xs ++ ys)) = rw (l, e, length-append) (omega arith) in
     q ∙ rw (bytes, end)
-
--- the edges of a record, one after the other
-pub edges : (s : Solution) → edgeOctetsOf s 0 ++ edgeOctetsOf s 1 ++ edgeOctetsOf s 2 ≡ flatMap (edgeOctetsOf s) (range 0 maxEdges)
-unfolding edgeOctetsOf edgeOctets range flatMap
-edges s = refl

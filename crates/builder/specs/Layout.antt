@@ -1,17 +1,13 @@
--- The bytes of a book's parts and of a solution record, in the order in which they stand.
+-- The bytes of a book's parts, in the order in which they stand.
 -- Assumes nothing.
 use Prim.Native.Nat.{ℕ, _+_, min}
-use mathlib.Core.List.{List, [], _∷_, _++_, flatMap}
-use lib.ListN.{length, getD}
+use mathlib.Core.List.{List, [], _∷_, _++_}
+use lib.ListN.{length}
 use Rattle.spec.specs.declared.Sizes.{Sizes}
 use Rattle.spec.specs.declared.Head.{Head}
 use Rattle.spec.specs.declared.AsEntry.{AsEntry}
 use Rattle.spec.specs.declared.PeerEntry.{PeerEntry}
-use Rattle.spec.specs.declared.Solution.{Solution}
-use Rattle.spec.specs.Limits.{maxEdges}
-use Rattle.spec.specs.Basics.{range}
 use Rattle.spec.specs.Octets.{octets2, octets4, octets8}
-use Rattle.spec.specs.Records.{edgeOctets, noEdge}
 use Rattle.output.specs.Write.{written}
 
 -- xs over the bytes of d from index `at` on, and the next place, at most the end
@@ -44,10 +40,3 @@ peerOctets p =
     ++ octets2 (p .hop .ingress)
     ++ octets2 (p .hop .egress)
     ++ p .hop .mac
-
--- the bytes of edge k of a record
-unfoldable pub edgeOctetsOf : Solution → ℕ → List ℕ
-edgeOctetsOf s k = edgeOctets (getD (s .edges) k noEdge)
-
-unfoldable pub recordOctets : Solution → List ℕ
-recordOctets s = octets2 (s .cost) ++ (s .count ∷ []) ++ (0 ∷ []) ++ flatMap (edgeOctetsOf s) (range 0 maxEdges)

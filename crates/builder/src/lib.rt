@@ -5,14 +5,14 @@ ghost use mathlib.Core.Path.{_≡_};
 ghost use mathlib.Core.List.{[], _∷_};
 ghost use Prim.Native.Nat.{_+_, min};
 ghost use Rattle.spec.specs.Octets.{octets2, octets4, octets8};
-ghost use Rattle.spec.specs.Records.{bit, edgeOctets};
-ghost use Rattle.builder.specs.Layout.{appended, sizesOctets, headOctets, entryOctets, peerOctets, recordOctets};
+ghost use Rattle.records.specs.Octets.{recordOctets};
+ghost use Rattle.builder.specs.Layout.{appended, sizesOctets, headOctets, entryOctets, peerOctets};
 use spec::AsEntry;
 use spec::Head;
+use spec::HopField;
 use spec::PeerEntry;
 use spec::Sizes;
 use spec::Solution;
-use spec::SolutionEdge;
 
 // ---- the parts of a book, in the order in which they stand in it
 
@@ -70,28 +70,9 @@ pub fn put_peer(out: &mut [u8], at: usize, p: PeerEntry) -> usize
 pub fn put_solution(out: &mut [u8], at: usize, s: Solution) -> usize
     ensures { λ r. ⌜ (now (out .exit), r) ≡ appended (now (out .entry)) at (recordOctets s) ⌝ }
 {
-    let edges = s.edges;
-    let count = two(out, at, s.cost);
-    let zero = one(out, count, s.count);
-    let first = one(out, zero, 0);
-    let second = put_edge(out, first, edges[0]);
-    let third = put_edge(out, second, edges[1]);
-    put_edge(out, third, edges[2])
-}
-
-fn put_edge(out: &mut [u8], at: usize, e: SolutionEdge) -> usize
-    ensures { λ r. ⌜ (now (out .exit), r) ≡ appended (now (out .entry)) at (edgeOctets e) ⌝ }
-{
-    let shortcut = one(out, at, e.position);
-    let peer = one(out, shortcut, e.shortcut);
-    let direction = one(out, peer, e.peer);
-    one(out, direction, flag(e.construction))
-}
-
-fn flag(b: bool) -> u8
-    ensures { λ r. ⌜ r ≡ bit b ⌝ }
-{
-    if b { 1 } else { 0 }
+    let octets = records::solution_octets(s);
+    output::copy(&octets, 0, Solution::SIZE, out, at);
+    past(out.len(), at, Solution::SIZE)
 }
 
 // ---- bytes
@@ -124,11 +105,11 @@ fn eight(out: &mut [u8], at: usize, x: u64) -> usize
     past(out.len(), at, 8)
 }
 
-fn mac(out: &mut [u8], at: usize, m: [u8; 6]) -> usize
+fn mac(out: &mut [u8], at: usize, m: [u8; HopField::MAC]) -> usize
     ensures { λ r. ⌜ (now (out .exit), r) ≡ appended (now (out .entry)) at m ⌝ }
 {
-    output::copy(&m, 0, m.len(), out, at);
-    past(out.len(), at, m.len())
+    output::copy(&m, 0, HopField::MAC, out, at);
+    past(out.len(), at, HopField::MAC)
 }
 
 // Past k bytes at `at`, or the end n.

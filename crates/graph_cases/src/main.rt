@@ -1,5 +1,5 @@
 // Lists at the limits. Each line is a book and ends, listing's answer as a number, and the first and the last record. The answers and
-// records in the file `stdout` were worked out by hand from document 01. All that is not said of a book is zero.
+// records in the file `stdout` were worked out by hand from docs/SPECIFICATION.md 5.5, 8.1 and 9.5. All that is not said of a book is zero.
 ghost use Prim.Native.Nat.{_≤_};
 ghost use Rattle.spec.specs.Limits.{maxSlots};
 use spec::AsEntry;
@@ -9,7 +9,6 @@ use spec::IsdAsn;
 use spec::Limits;
 use spec::ListAnswer;
 use spec::PeerEntry;
-use spec::Refusal;
 use spec::Sizes;
 use spec::Solution;
 
@@ -21,21 +20,6 @@ const B: u64 = 0x0001_ff00_0000_0111;
 const X: u64 = 0x0001_ff00_0000_0120;
 
 const Y: u64 = 0x0001_ff00_0000_0121;
-
-fn refusal(r: Refusal) -> u64 {
-    match r {
-        Refusal::Cut => 1,
-        Refusal::Surplus => 2,
-        Refusal::Oversize => 3,
-        Refusal::Crowded => 4,
-        Refusal::Long => 5,
-        Refusal::Peers => 6,
-        Refusal::Misfit => 7,
-        Refusal::Full => 8,
-        Refusal::Small => 9,
-        Refusal::Stranger => 10,
-    }
-}
 
 // The record in slot k.
 fn record(out: &[u8], k: usize)
@@ -63,7 +47,7 @@ fn show(label: &[u8], src: u64, dst: u64, book: &[u8], out: &mut [u8]) {
         }
         ListAnswer::Refused(r) => {
             io::write_all(libc::STDOUT_FILENO, b"refused ");
-            io::print_decimal(libc::STDOUT_FILENO, refusal(r));
+            io::print_decimal(libc::STDOUT_FILENO, r.number() as u64);
         }
     }
     io::write_all(libc::STDOUT_FILENO, b"\n");
@@ -89,7 +73,7 @@ fn entry(local: u64, ingress: u16, egress: u16, peers: u8) -> AsEntry {
         units: 0,
         ingress: ingress,
         egress: egress,
-        mac: [0u8; 6],
+        mac: [0u8; HopField::MAC],
     };
     AsEntry::new(IsdAsn(local), 0, 0, hop, peers)
 }

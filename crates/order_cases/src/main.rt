@@ -182,16 +182,16 @@ fn in_part(n: usize) {
 
 // Bytes 0 to 2 with no order in them.
 fn mixed(i: usize) -> u8 {
-    ((i % 4096 * 7919 + i / 16 % 8192 * 104729) / 61 % 3) as u8
+    ((i % 4096 * 7919 + i / Solution::SIZE % 8192 * 104729) / 61 % 3) as u8
 }
 
 // The same, as records that a key can be made of: zero is 0, and a direction 0 or 1.
 fn plain(i: usize) -> u8 {
     let b = mixed(i);
-    if i % 16 == 3 {
+    if i % Solution::SIZE == Solution::COUNT + 1 {
         return 0;
     }
-    if i % 4 == 3 {
+    if i % SolutionEdge::SIZE == SolutionEdge::DIRECTION {
         return b % 2;
     }
     b
@@ -248,7 +248,7 @@ fn long_plain() {
 fn long_but_one() {
     let mut s = [0u8; 700 * Solution::SIZE];
     fill(&mut s, true);
-    s[7] = 2;
+    s[Solution::HEAD + SolutionEdge::DIRECTION] = 2;
     order::sort(&book(), &mut s, 700);
     show_digest(&s);
 }

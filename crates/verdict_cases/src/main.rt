@@ -1,13 +1,12 @@
 // The answers 1 to 7 about a book, at each limit and one past it, a byte short and a byte more, and which comes first where
 // two apply. Each line is a book and the number of its answer, 0 where it is accepted. The numbers in the file `stdout` were
-// worked out by hand from document 01. All that a book does not state is zero.
+// worked out by hand from docs/SPECIFICATION.md 9.3. All that a book does not state is zero.
 use spec::AsEntry;
 use spec::Head;
 use spec::HopField;
 use spec::IsdAsn;
 use spec::Limits;
 use spec::PeerEntry;
-use spec::Refusal;
 use spec::Sizes;
 use spec::Verdict;
 
@@ -27,18 +26,7 @@ const PEERS: u8 = Limits::PEERS as u8;
 fn number(v: Verdict) -> u64 {
     match v {
         Verdict::Accepted => 0,
-        Verdict::Refused(r) => match r {
-            Refusal::Cut => 1,
-            Refusal::Surplus => 2,
-            Refusal::Oversize => 3,
-            Refusal::Crowded => 4,
-            Refusal::Long => 5,
-            Refusal::Peers => 6,
-            Refusal::Misfit => 7,
-            Refusal::Full => 8,
-            Refusal::Small => 9,
-            Refusal::Stranger => 10,
-        },
+        Verdict::Refused(r) => r.number() as u64,
     }
 }
 
@@ -116,7 +104,7 @@ fn hop() -> HopField {
         units: 0,
         ingress: 0,
         egress: 0,
-        mac: [0u8; 6],
+        mac: [0u8; HopField::MAC],
     }
 }
 

@@ -8,7 +8,14 @@ use Rattle.builder.proofs.put_entry.Tie as tie
 
 returns : tie.Need-returns
 unfolding entryOctets
-returns c = next _ _ _ _ _ _ _ (next _ _ _ _ _ _ _ (next _ _ _ _ _ _ _ (next _ _ _ _ _ _ _ (next _ _ _ _ _ _ _ (next _ _ _ _ _ _ _ (next _ _ _ _ _ _ _ (c .before .before .before .before .before .before .before .before .before .before .before .before .before .before .before .before .before .before .before .before .before .before .before .before .before .before .before .before .before .before .eight .ensures) (c .before .before .before .before .before .before .before .before .before .before .before .before .before .before .before .before .before .before .before .before .before .before .before .before .before .before .four .ensures)) (c .before .before .before .before .before .before .before .before .before .before .before .before .before .before .before .before .before .before .before .before .before .before .two .ensures)) (c .before .before .before .before .before .before .before .before .before .before .before .before .before .before .before .before .before .before .two2 .ensures)) (c .before .before .before .before .before .before .before .before .before .before .before .before .before .before .two3 .ensures)) (c .before .before .before .before .before .before .before .before .before .before .one .ensures)) (c .before .before .before .before .before .before .mac .ensures)) (c .before .before .one2 .ensures)
+returns c =
+    let p = next _ _ _ _ _ _ _ (c .before .before .before .before .before .before .before .before .before .before .before .before .before .before .before .before .before .before .before .before .before .before .before .before .before .before .before .before .before .before .eight .ensures) (c .before .before .before .before .before .before .before .before .before .before .before .before .before .before .before .before .before .before .before .before .before .before .before .before .before .before .four .ensures) in
+    let q = next _ _ _ _ _ _ _ p (c .before .before .before .before .before .before .before .before .before .before .before .before .before .before .before .before .before .before .before .before .before .before .two .ensures) in
+    let r = next _ _ _ _ _ _ _ q (c .before .before .before .before .before .before .before .before .before .before .before .before .before .before .before .before .before .before .two2 .ensures) in
+    let s = next _ _ _ _ _ _ _ r (c .before .before .before .before .before .before .before .before .before .before .before .before .before .before .two3 .ensures) in
+    let t = next _ _ _ _ _ _ _ s (c .before .before .before .before .before .before .before .before .before .before .one .ensures) in
+    let u = next _ _ _ _ _ _ _ t (c .before .before .before .before .before .before .mac .ensures) in
+    next _ _ _ _ _ _ _ u (c .before .before .one2 .ensures)
 
 pub put-entry-spec : {M : Type 1} → statement M
 put-entry-spec =

@@ -8,7 +8,10 @@ use Rattle.builder.proofs.put_head.Tie as tie
 
 returns : tie.Need-returns
 unfolding headOctets
-returns c = next _ _ _ _ _ _ _ (next _ _ _ _ _ _ _ (next _ _ _ _ _ _ _ (c .before .before .before .before .before .before .before .before .before .before .before .before .before .before .four .ensures) (c .before .before .before .before .before .before .before .before .before .before .two .ensures)) (c .before .before .before .before .before .before .two2 .ensures)) (c .before .before .two3 .ensures)
+returns c =
+    let p = next _ _ _ _ _ _ _ (c .before .before .before .before .before .before .before .before .before .before .before .before .before .before .four .ensures) (c .before .before .before .before .before .before .before .before .before .before .two .ensures) in
+    let q = next _ _ _ _ _ _ _ p (c .before .before .before .before .before .before .two2 .ensures) in
+    next _ _ _ _ _ _ _ q (c .before .before .two3 .ensures)
 
 pub put-head-spec : {M : Type 1} → statement M
 put-head-spec =

@@ -8,7 +8,13 @@ use Rattle.builder.proofs.put_peer.Tie as tie
 
 returns : tie.Need-returns
 unfolding peerOctets
-returns c = next _ _ _ _ _ _ _ (next _ _ _ _ _ _ _ (next _ _ _ _ _ _ _ (next _ _ _ _ _ _ _ (next _ _ _ _ _ _ _ (next _ _ _ _ _ _ _ (c .before .before .before .before .before .before .before .before .before .before .before .before .before .before .before .before .before .before .before .before .before .before .before .before .before .before .eight .ensures) (c .before .before .before .before .before .before .before .before .before .before .before .before .before .before .before .before .before .before .before .before .before .before .two .ensures)) (c .before .before .before .before .before .before .before .before .before .before .before .before .before .before .before .before .before .before .two2 .ensures)) (c .before .before .before .before .before .before .before .before .before .before .before .before .before .before .one .ensures)) (c .before .before .before .before .before .before .before .before .before .before .two3 .ensures)) (c .before .before .before .before .before .before .two4 .ensures)) (c .before .before .mac .ensures)
+returns c =
+    let p = next _ _ _ _ _ _ _ (c .before .before .before .before .before .before .before .before .before .before .before .before .before .before .before .before .before .before .before .before .before .before .before .before .before .before .eight .ensures) (c .before .before .before .before .before .before .before .before .before .before .before .before .before .before .before .before .before .before .before .before .before .before .two .ensures) in
+    let q = next _ _ _ _ _ _ _ p (c .before .before .before .before .before .before .before .before .before .before .before .before .before .before .before .before .before .before .two2 .ensures) in
+    let r = next _ _ _ _ _ _ _ q (c .before .before .before .before .before .before .before .before .before .before .before .before .before .before .one .ensures) in
+    let s = next _ _ _ _ _ _ _ r (c .before .before .before .before .before .before .before .before .before .before .two3 .ensures) in
+    let t = next _ _ _ _ _ _ _ s (c .before .before .before .before .before .before .two4 .ensures) in
+    next _ _ _ _ _ _ _ t (c .before .before .mac .ensures)
 
 pub put-peer-spec : {M : Type 1} → statement M
 put-peer-spec =

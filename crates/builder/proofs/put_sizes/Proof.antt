@@ -8,7 +8,9 @@ use Rattle.builder.proofs.put_sizes.Tie as tie
 
 returns : tie.Need-returns
 unfolding sizesOctets
-returns c = next _ _ _ _ _ _ _ (next _ _ _ _ _ _ _ (c .before .before .before .before .before .before .before .before .before .before .two .ensures) (c .before .before .before .before .before .before .two2 .ensures)) (c .before .before .four .ensures)
+returns c =
+    let p = next _ _ _ _ _ _ _ (c .before .before .before .before .before .before .before .before .before .before .two .ensures) (c .before .before .before .before .before .before .two2 .ensures) in
+    next _ _ _ _ _ _ _ p (c .before .before .four .ensures)
 
 pub put-sizes-spec : {M : Type 1} → statement M
 put-sizes-spec =
