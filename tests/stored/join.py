@@ -1,7 +1,7 @@
 #!/usr/bin/env python3
-"""Joins the bench cases, answers.bin and refusals.bin to what crate stored is run on (README.md).
+"""Joins the bench cases, answers.bin and refusals.bin to what crate replay is run on (README.md).
 
-    join.py            writes crates/stored/stdin and crates/stored/stdout
+    join.py            writes crates/replay/stdin and crates/replay/stdout
     join.py --check    says whether they are what it would write
 """
 import os
@@ -11,7 +11,7 @@ import bench
 import form
 
 HERE = os.path.dirname(os.path.abspath(__file__))
-CRATE = os.path.join(HERE, "..", "..", "crates", "stored")
+CRATE = os.path.join(HERE, "..", "..", "crates", "replay")
 
 
 def tagged(tag, cases):
@@ -31,7 +31,7 @@ def main():
         if sys.argv[1:] == ["--check"]:
             with open(path, "rb") as f:
                 if f.read() != data:
-                    sys.exit(f"crates/stored/{name} is not what tests/stored/join.py writes")
+                    sys.exit(f"crates/replay/{name} is not what tests/stored/join.py writes")
         else:
             with open(path, "wb") as f:
                 f.write(data)

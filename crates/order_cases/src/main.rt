@@ -1,827 +1,197 @@
 // Small buffers, sorted: a line for each record, the bytes after the last whole one not shown, and an
-// empty line after each buffer; then the digests of two long buffers. `stdout` has what `expected.py`
-// writes, which takes the records and the book from this file, and sorts by a key of its own, with
-// SHA-256 from Python's hashlib. The keys that decide in `KEYS`, `POSITIONS` and `PART` were worked
-// out by hand too.
-ghost use Prim.Native.Nat.{_<_};
+// empty line after each buffer; then the digests of four long buffers. `stdout` has what `expected.py`
+// writes, which has the same book and records, and sorts by a key of its own, with SHA-256 from Python's
+// hashlib. The keys that decide in `by_keys`, `by_positions` and `in_part` were worked out by hand too.
+use spec::AsEntry;
+use spec::Head;
+use spec::HopField;
+use spec::IsdAsn;
+use spec::Limits;
+use spec::Sizes;
+use spec::Solution;
+use spec::SolutionEdge;
+
+// ---- the book
+
+const BOOK: usize = Sizes::SIZE + 6 * (Head::SIZE + AsEntry::SIZE);
+
+fn head(timestamp: u32) -> Head {
+    Head {
+        timestamp: timestamp,
+        id: 0x1234,
+        entries: 1,
+        body: AsEntry::SIZE as u16,
+    }
+}
+
+fn entry(n: u8) -> AsEntry {
+    let hop = HopField {
+        units: 63,
+        ingress: 0,
+        egress: n as u16,
+        mac: [10, 0, 0, 0, 0, n],
+    };
+    AsEntry::new(IsdAsn(0x0001_ff00_0000_0110 + n as u64), 1500, 0, hop, 0)
+}
 
 // Six segments of one entry. The entries at positions 1 and 4 are the same, the timestamps are not: one
 // fingerprint at two positions.
-const BOOK: [u8; 224] = [
-    0,
-    0,
-    0,
-    6,
-    0,
-    0,
-    0,
-    156,
-    0,
-    15,
-    66,
-    64,
-    18,
-    52,
-    0,
-    1,
-    0,
-    26,
-    0,
-    15,
-    66,
-    65,
-    18,
-    52,
-    0,
-    1,
-    0,
-    26,
-    0,
-    15,
-    66,
-    66,
-    18,
-    52,
-    0,
-    1,
-    0,
-    26,
-    0,
-    15,
-    66,
-    67,
-    18,
-    52,
-    0,
-    1,
-    0,
-    26,
-    0,
-    15,
-    66,
-    68,
-    18,
-    52,
-    0,
-    1,
-    0,
-    26,
-    0,
-    15,
-    66,
-    69,
-    18,
-    52,
-    0,
-    1,
-    0,
-    26,
-    0,
-    1,
-    255,
-    0,
-    0,
-    0,
-    1,
-    16,
-    0,
-    0,
-    5,
-    220,
-    0,
-    0,
-    0,
-    0,
-    0,
-    0,
-    63,
-    10,
-    0,
-    0,
-    0,
-    0,
-    0,
-    0,
-    0,
-    1,
-    255,
-    0,
-    0,
-    0,
-    1,
-    17,
-    0,
-    0,
-    5,
-    220,
-    0,
-    0,
-    0,
-    0,
-    0,
-    1,
-    63,
-    10,
-    0,
-    0,
-    0,
-    0,
-    1,
-    0,
-    0,
-    1,
-    255,
-    0,
-    0,
-    0,
-    1,
-    18,
-    0,
-    0,
-    5,
-    220,
-    0,
-    0,
-    0,
-    0,
-    0,
-    2,
-    63,
-    10,
-    0,
-    0,
-    0,
-    0,
-    2,
-    0,
-    0,
-    1,
-    255,
-    0,
-    0,
-    0,
-    1,
-    19,
-    0,
-    0,
-    5,
-    220,
-    0,
-    0,
-    0,
-    0,
-    0,
-    3,
-    63,
-    10,
-    0,
-    0,
-    0,
-    0,
-    3,
-    0,
-    0,
-    1,
-    255,
-    0,
-    0,
-    0,
-    1,
-    17,
-    0,
-    0,
-    5,
-    220,
-    0,
-    0,
-    0,
-    0,
-    0,
-    1,
-    63,
-    10,
-    0,
-    0,
-    0,
-    0,
-    1,
-    0,
-    0,
-    1,
-    255,
-    0,
-    0,
-    0,
-    1,
-    21,
-    0,
-    0,
-    5,
-    220,
-    0,
-    0,
-    0,
-    0,
-    0,
-    5,
-    63,
-    10,
-    0,
-    0,
-    0,
-    0,
-    5,
-    0,
-];
+fn book() -> [u8; BOOK] {
+    let mut b = [0u8; BOOK];
+    let sizes = Sizes {
+        cores: 0,
+        others: 6,
+        bodies: 6 * AsEntry::SIZE as u32,
+    };
+    let mut at = builder::put_sizes(&mut b, 0, sizes);
+    at = builder::put_head(&mut b, at, head(1000000));
+    at = builder::put_head(&mut b, at, head(1000001));
+    at = builder::put_head(&mut b, at, head(1000002));
+    at = builder::put_head(&mut b, at, head(1000003));
+    at = builder::put_head(&mut b, at, head(1000004));
+    at = builder::put_head(&mut b, at, head(1000005));
+    at = builder::put_entry(&mut b, at, entry(0));
+    at = builder::put_entry(&mut b, at, entry(1));
+    at = builder::put_entry(&mut b, at, entry(2));
+    at = builder::put_entry(&mut b, at, entry(3));
+    at = builder::put_entry(&mut b, at, entry(1));
+    builder::put_entry(&mut b, at, entry(5));
+    b
+}
 
-// Cost, also where its second byte is the smaller; count; peers of both edges, the smaller first;
-// shortcuts, the larger first.
-const KEYS: [u8; 160] = [
-    1,
-    44,
-    1,
-    0,
-    0,
-    2,
-    0,
-    1,
-    0,
-    0,
-    0,
-    0,
-    0,
-    0,
-    0,
-    0,
-    0,
-    5,
-    2,
-    0,
-    0,
-    0,
-    0,
-    0,
-    1,
-    0,
-    0,
-    1,
-    0,
-    0,
-    0,
-    0,
-    0,
-    5,
-    1,
-    0,
-    0,
-    0,
-    1,
-    1,
-    0,
-    0,
-    0,
-    0,
-    0,
-    0,
-    0,
-    0,
-    0,
-    5,
-    1,
-    0,
-    0,
-    0,
-    0,
-    1,
-    0,
-    0,
-    0,
-    0,
-    0,
-    0,
-    0,
-    0,
-    0,
-    5,
-    1,
-    0,
-    0,
-    3,
-    0,
-    1,
-    0,
-    0,
-    0,
-    0,
-    0,
-    0,
-    0,
-    0,
-    0,
-    255,
-    1,
-    0,
-    0,
-    0,
-    0,
-    1,
-    0,
-    0,
-    0,
-    0,
-    0,
-    0,
-    0,
-    0,
-    1,
-    0,
-    1,
-    0,
-    0,
-    0,
-    0,
-    1,
-    0,
-    0,
-    0,
-    0,
-    0,
-    0,
-    0,
-    0,
-    0,
-    5,
-    2,
-    0,
-    0,
-    0,
-    0,
-    0,
-    1,
-    0,
-    2,
-    1,
-    0,
-    0,
-    0,
-    0,
-    0,
-    5,
-    2,
-    0,
-    0,
-    0,
-    0,
-    0,
-    1,
-    7,
-    2,
-    1,
-    0,
-    0,
-    0,
-    0,
-    0,
-    5,
-    2,
-    0,
-    0,
-    0,
-    1,
-    0,
-    1,
-    0,
-    0,
-    1,
-    0,
-    0,
-    0,
-    0,
-];
+// ---- records
 
-// Positions alone differ, or a peer after them: the fingerprints decide.
-const PRINTS: [u8; 192] = [
-    0,
-    4,
-    2,
-    0,
-    5,
-    1,
-    0,
-    0,
-    2,
-    0,
-    0,
-    1,
-    0,
-    0,
-    0,
-    0,
-    0,
-    4,
-    2,
-    0,
-    4,
-    1,
-    0,
-    0,
-    2,
-    0,
-    0,
-    1,
-    0,
-    0,
-    0,
-    0,
-    0,
-    4,
-    2,
-    0,
-    3,
-    1,
-    0,
-    0,
-    2,
-    0,
-    0,
-    1,
-    0,
-    0,
-    0,
-    0,
-    0,
-    4,
-    2,
-    0,
-    2,
-    1,
-    0,
-    0,
-    2,
-    0,
-    0,
-    1,
-    0,
-    0,
-    0,
-    0,
-    0,
-    4,
-    2,
-    0,
-    1,
-    1,
-    0,
-    0,
-    2,
-    0,
-    0,
-    1,
-    0,
-    0,
-    0,
-    0,
-    0,
-    4,
-    2,
-    0,
-    0,
-    1,
-    0,
-    0,
-    2,
-    0,
-    0,
-    1,
-    0,
-    0,
-    0,
-    0,
-    0,
-    4,
-    2,
-    0,
-    0,
-    1,
-    0,
-    0,
-    0,
-    0,
-    0,
-    1,
-    0,
-    0,
-    0,
-    0,
-    0,
-    4,
-    2,
-    0,
-    0,
-    1,
-    0,
-    0,
-    1,
-    0,
-    0,
-    1,
-    0,
-    0,
-    0,
-    0,
-    0,
-    4,
-    2,
-    0,
-    0,
-    1,
-    0,
-    0,
-    3,
-    0,
-    0,
-    1,
-    0,
-    0,
-    0,
-    0,
-    0,
-    4,
-    2,
-    0,
-    0,
-    1,
-    0,
-    0,
-    5,
-    0,
-    0,
-    1,
-    0,
-    0,
-    0,
-    0,
-    0,
-    4,
-    2,
-    0,
-    3,
-    1,
-    0,
-    0,
-    2,
-    0,
-    1,
-    1,
-    0,
-    0,
-    0,
-    0,
-    0,
-    4,
-    2,
-    0,
-    2,
-    1,
-    0,
-    0,
-    2,
-    0,
-    1,
-    1,
-    0,
-    0,
-    0,
-    0,
-];
+// An edge against construction direction, and one in it: position, shortcut, and peer.
+fn up(position: u8, shortcut: u8, peer: u8) -> SolutionEdge {
+    SolutionEdge {
+        position: position,
+        shortcut: shortcut,
+        peer: peer,
+        construction: false,
+    }
+}
 
-// Positions of one fingerprint in each edge: these decide last, after the third edge's shortcut. At 200
-// and 250 the book has no segment, and both have the fingerprint of nothing.
-const POSITIONS: [u8; 112] = [
-    0,
-    7,
-    3,
-    0,
-    4,
-    0,
-    0,
-    0,
-    1,
-    0,
-    0,
-    1,
-    1,
-    2,
-    0,
-    1,
-    0,
-    7,
-    3,
-    0,
-    1,
-    0,
-    0,
-    0,
-    4,
-    0,
-    0,
-    1,
-    4,
-    2,
-    0,
-    1,
-    0,
-    7,
-    3,
-    0,
-    1,
-    0,
-    0,
-    0,
-    4,
-    0,
-    0,
-    1,
-    1,
-    2,
-    0,
-    1,
-    0,
-    7,
-    3,
-    0,
-    1,
-    0,
-    0,
-    0,
-    1,
-    0,
-    0,
-    1,
-    4,
-    2,
-    0,
-    1,
-    0,
-    7,
-    3,
-    0,
-    4,
-    0,
-    0,
-    0,
-    1,
-    0,
-    0,
-    1,
-    1,
-    3,
-    0,
-    1,
-    0,
-    7,
-    3,
-    0,
-    250,
-    0,
-    0,
-    0,
-    1,
-    0,
-    0,
-    1,
-    1,
-    2,
-    0,
-    1,
-    0,
-    7,
-    3,
-    0,
-    200,
-    0,
-    0,
-    0,
-    1,
-    0,
-    0,
-    1,
-    1,
-    2,
-    0,
-    1,
-];
+fn down(position: u8, shortcut: u8, peer: u8) -> SolutionEdge {
+    SolutionEdge {
+        position: position,
+        shortcut: shortcut,
+        peer: peer,
+        construction: true,
+    }
+}
 
-// Three records and five bytes.
-const PART: [u8; 53] = [
-    0,
-    9,
-    1,
-    0,
-    0,
-    0,
-    0,
-    1,
-    0,
-    0,
-    0,
-    0,
-    0,
-    0,
-    0,
-    0,
-    0,
-    8,
-    1,
-    0,
-    0,
-    0,
-    0,
-    1,
-    0,
-    0,
-    0,
-    0,
-    0,
-    0,
-    0,
-    0,
-    0,
-    7,
-    1,
-    0,
-    0,
-    0,
-    0,
-    1,
-    0,
-    0,
-    0,
-    0,
-    0,
-    0,
-    0,
-    0,
-    0,
-    0,
-    0,
-    0,
-    9,
-];
+fn one(s: &mut [u8], at: usize, cost: u16, e: SolutionEdge) -> usize {
+    builder::put_solution(s, at, Solution::new(cost, 1, [e, up(0, 0, 0), up(0, 0, 0)]))
+}
+
+fn two(s: &mut [u8], at: usize, cost: u16, e: SolutionEdge, f: SolutionEdge) -> usize {
+    builder::put_solution(s, at, Solution::new(cost, 2, [e, f, up(0, 0, 0)]))
+}
+
+fn three(
+    s: &mut [u8],
+    at: usize,
+    cost: u16,
+    e: SolutionEdge,
+    f: SolutionEdge,
+    g: SolutionEdge,
+) -> usize {
+    builder::put_solution(s, at, Solution::new(cost, 3, [e, f, g]))
+}
+
+// ---- sorted
 
 // A line for each record.
 fn show(s: &[u8]) {
     let mut q = 0;
-    while q < s.len() / 16 {
-        io::print_hex(libc::STDOUT_FILENO, octets::be64(s, 16 * q), 16);
-        io::print_hex(libc::STDOUT_FILENO, octets::be64(s, 16 * q + 8), 16);
+    while q < s.len() / Solution::SIZE {
+        let at = Solution::SIZE * q;
+        io::print_hex(libc::STDOUT_FILENO, octets::be64(s, at), 16);
+        io::print_hex(libc::STDOUT_FILENO, octets::be64(s, at + 8), 16);
         io::write_all(libc::STDOUT_FILENO, b"\n");
         q += 1;
     }
     io::write_all(libc::STDOUT_FILENO, b"\n");
 }
 
+// Cost, also where its second byte is the smaller; count; peers of both edges, the smaller first;
+// shortcuts, the larger first.
 fn by_keys() {
-    let book = BOOK;
-    let mut s = KEYS;
-    order::sort(&book, &mut s, 10);
+    let mut s = [0u8; 10 * Solution::SIZE];
+    let mut at = one(&mut s, 0, 300, down(0, 2, 0));
+    at = two(&mut s, at, 5, up(0, 0, 0), down(1, 0, 0));
+    at = one(&mut s, at, 5, down(0, 0, 1));
+    at = one(&mut s, at, 5, down(0, 0, 0));
+    at = one(&mut s, at, 5, down(0, 3, 0));
+    at = one(&mut s, at, 255, down(0, 0, 0));
+    at = one(&mut s, at, 256, down(0, 0, 0));
+    at = two(&mut s, at, 5, up(0, 0, 0), down(1, 0, 2));
+    at = two(&mut s, at, 5, up(0, 0, 0), down(1, 7, 2));
+    two(&mut s, at, 5, up(0, 0, 1), down(1, 0, 0));
+    order::sort(&book(), &mut s, 10);
     show(&s);
 }
 
+// Positions alone differ, or a peer after them: the fingerprints decide.
 fn by_fingerprints() {
-    let book = BOOK;
-    let mut s = PRINTS;
-    order::sort(&book, &mut s, 12);
+    let mut s = [0u8; 12 * Solution::SIZE];
+    let mut at = two(&mut s, 0, 4, up(5, 1, 0), down(2, 0, 0));
+    at = two(&mut s, at, 4, up(4, 1, 0), down(2, 0, 0));
+    at = two(&mut s, at, 4, up(3, 1, 0), down(2, 0, 0));
+    at = two(&mut s, at, 4, up(2, 1, 0), down(2, 0, 0));
+    at = two(&mut s, at, 4, up(1, 1, 0), down(2, 0, 0));
+    at = two(&mut s, at, 4, up(0, 1, 0), down(2, 0, 0));
+    at = two(&mut s, at, 4, up(0, 1, 0), down(0, 0, 0));
+    at = two(&mut s, at, 4, up(0, 1, 0), down(1, 0, 0));
+    at = two(&mut s, at, 4, up(0, 1, 0), down(3, 0, 0));
+    at = two(&mut s, at, 4, up(0, 1, 0), down(5, 0, 0));
+    at = two(&mut s, at, 4, up(3, 1, 0), down(2, 0, 1));
+    two(&mut s, at, 4, up(2, 1, 0), down(2, 0, 1));
+    order::sort(&book(), &mut s, 12);
     show(&s);
 }
 
+// Positions of one fingerprint in each edge: these decide last, after the third edge's shortcut. At 200
+// and 250 the book has no segment, and both have the fingerprint of nothing.
 fn by_positions() {
-    let book = BOOK;
-    let mut s = POSITIONS;
-    order::sort(&book, &mut s, 7);
+    let mut s = [0u8; 7 * Solution::SIZE];
+    let mut at = three(&mut s, 0, 7, up(4, 0, 0), down(1, 0, 0), down(1, 2, 0));
+    at = three(&mut s, at, 7, up(1, 0, 0), down(4, 0, 0), down(4, 2, 0));
+    at = three(&mut s, at, 7, up(1, 0, 0), down(4, 0, 0), down(1, 2, 0));
+    at = three(&mut s, at, 7, up(1, 0, 0), down(1, 0, 0), down(4, 2, 0));
+    at = three(&mut s, at, 7, up(4, 0, 0), down(1, 0, 0), down(1, 3, 0));
+    at = three(&mut s, at, 7, up(250, 0, 0), down(1, 0, 0), down(1, 2, 0));
+    three(&mut s, at, 7, up(200, 0, 0), down(1, 0, 0), down(1, 2, 0));
+    order::sort(&book(), &mut s, 7);
     show(&s);
 }
 
-// More than the buffer has, none, one, and the first two.
+// Three records and five bytes.
+const PART: usize = 3 * Solution::SIZE + 5;
+
+// The first n records: more than the buffer has, none, one, and two.
 fn in_part(n: usize) {
-    let book = BOOK;
-    let mut s = PART;
-    order::sort(&book, &mut s, n);
+    let mut s = [0u8; PART];
+    let mut at = one(&mut s, 0, 9, down(0, 0, 0));
+    at = one(&mut s, at, 8, down(0, 0, 0));
+    one(&mut s, at, 7, down(0, 0, 0));
+    s[PART - 1] = 9;
+    order::sort(&book(), &mut s, n);
     show(&s);
 }
 
 // Bytes 0 to 2 with no order in them.
 fn mixed(i: usize) -> u8 {
-    ((i % 4096 * 7919 + i / 16 % 8192 * 104729) / 61 % 3) as u8
+    ((i % 4096 * 7919 + i / Solution::SIZE % 8192 * 104729) / 61 % 3) as u8
 }
 
 // The same, as records that a key can be made of: zero is 0, and a direction 0 or 1.
 fn plain(i: usize) -> u8 {
     let b = mixed(i);
-    if i % 16 == 3 {
+    if i % Solution::SIZE == Solution::COUNT + 1 {
         return 0;
     }
-    if i % 4 == 3 {
+    if i % SolutionEdge::SIZE == SolutionEdge::DIRECTION {
         return b % 2;
     }
     b
@@ -853,37 +223,33 @@ fn show_digest(s: &[u8]) {
 
 // 300 records.
 fn long() {
-    let book = BOOK;
-    let mut s = [0u8; 4800];
+    let mut s = [0u8; 300 * Solution::SIZE];
     fill(&mut s, false);
-    order::sort(&book, &mut s, 300);
+    order::sort(&book(), &mut s, 300);
     show_digest(&s);
 }
 
 // 4,100 records, of which 4,096 are sorted.
 fn longest() {
-    let book = BOOK;
-    let mut s = [0u8; 65600];
+    let mut s = [0u8; (Limits::SLOTS + 4) * Solution::SIZE];
     fill(&mut s, false);
-    order::sort(&book, &mut s, 5000);
+    order::sort(&book(), &mut s, 5000);
     show_digest(&s);
 }
 
 // 700 records, which are sorted as keys; and with one among them of which no key can be made.
 fn long_plain() {
-    let book = BOOK;
-    let mut s = [0u8; 11200];
+    let mut s = [0u8; 700 * Solution::SIZE];
     fill(&mut s, true);
-    order::sort(&book, &mut s, 700);
+    order::sort(&book(), &mut s, 700);
     show_digest(&s);
 }
 
 fn long_but_one() {
-    let book = BOOK;
-    let mut s = [0u8; 11200];
+    let mut s = [0u8; 700 * Solution::SIZE];
     fill(&mut s, true);
-    s[7] = 2;
-    order::sort(&book, &mut s, 700);
+    s[Solution::HEAD + SolutionEdge::DIRECTION] = 2;
+    order::sort(&book(), &mut s, 700);
     show_digest(&s);
 }
 
