@@ -5,6 +5,7 @@ use mathlib.Core.Bool.{Bool, true, _&&_}
 use mathlib.Core.List.{List, [], _∷_, _++_, flatMap}
 use lib.ListN.{length, replicate}
 use Rattle.spec.specs.declared.IsdAsn.{IsdAsn}
+use Rattle.spec.specs.Limits.{pathSize}
 use Rattle.spec.specs.Basics.{sameList}
 use Rattle.spec.specs.Octets.{octets2, octets4, octets8}
 use Rattle.spec.specs.Book.{verdict}
@@ -91,7 +92,7 @@ answer digest (print i) = printed digest i
 answer digest (assemble b src dst given bytes) =
     let a : Assembled = assembly b (isdAsn src) (isdAsn dst) given bytes in
     pathNumber (a .0) ∷ a .1
-answer digest (hold b src dst given) = routerIds (assembly b (isdAsn src) (isdAsn dst) given 1538 .1)
+answer digest (hold b src dst given) = routerIds (assembly b (isdAsn src) (isdAsn dst) given pathSize .1)
 answer digest (room bytes) = slots bytes ∷ []
 answer digest (live units) = life units ∷ []
 
@@ -122,8 +123,27 @@ a111 = 0x0001_ff00_0000_0111
 abbrev pub a112 : ℕ
 a112 = 0x0001_ff00_0000_0112
 
+abbrev pub a0 : ℕ
+a0 = 0
+
+abbrev pub a113 : ℕ
+a113 = 0x0001_ff00_0000_0113
+
+abbrev pub a114 : ℕ
+a114 = 0x0001_ff00_0000_0114
+
+-- a110's AS number in another ISD
+abbrev pub b110 : ℕ
+b110 = 0x0002_ff00_0000_0110
+
 abbrev pub mac0 : List ℕ
 mac0 = 1 ∷ 2 ∷ 3 ∷ 4 ∷ 5 ∷ 6 ∷ []
 
 abbrev pub mac1 : List ℕ
 mac1 = 10 ∷ 11 ∷ 12 ∷ 13 ∷ 14 ∷ 15 ∷ []
+
+abbrev pub mac2 : List ℕ
+mac2 = 0x20 ∷ 0x31 ∷ 0x42 ∷ 0x53 ∷ 0x64 ∷ 0x75 ∷ []
+
+abbrev pub mac3 : List ℕ
+mac3 = 0x86 ∷ 0x97 ∷ 0xa8 ∷ 0xb9 ∷ 0xca ∷ 0xdb ∷ []
