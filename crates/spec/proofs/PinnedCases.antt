@@ -136,8 +136,8 @@ table =
     ∷ prints (others (segment 1 1 (plain a110 0 1 ∷ plain a111 2 3 ∷ plain a112 6 0 ∷ []) ∷ segment 1 1 (plain a110 0 1 ∷ plain a111 2 3 ∷ plain a112 4 0 ∷ []) ∷ [])) a112 a110
     "solutions 2 paths 2\n1 cost 2 segments 1 mtu 1500 expiry 21601 hops 3\ninfo 0 0001 1\nif 0001ff0000000112 4\nif 0001ff0000000111 3\nif 0001ff0000000111 2\nif 0001ff0000000110 1\n2 cost 2 segments 1 mtu 1500 expiry 21601 hops 3\ninfo 0 0001 1\nif 0001ff0000000112 6\nif 0001ff0000000111 3\nif 0001ff0000000111 2\nif 0001ff0000000110 1\n"
     -- direction is no key: the fingerprint decides
-    ∷ prints (others (segment 1 1 (plain a111 0 1 ∷ plain a110 2 0 ∷ []) ∷ segment 1 1 (plain a110 0 3 ∷ plain a111 4 0 ∷ []) ∷ [])) a111 a110
-    "solutions 2 paths 2\n1 cost 1 segments 1 mtu 1500 expiry 21601 hops 2\ninfo 0 0103 1\nif 0001ff0000000111 4\nif 0001ff0000000110 3\n2 cost 1 segments 1 mtu 1500 expiry 21601 hops 2\ninfo 1 0001 1\nif 0001ff0000000111 1\nif 0001ff0000000110 2\n"
+    ∷ prints (others (segment 1 1 (plain a111 0 1 ∷ plain a110 2 0 ∷ []) ∷ segment 1 1 (plain a110 0 3 ∷ plain a111 6 0 ∷ []) ∷ [])) a111 a110
+    "solutions 2 paths 2\n1 cost 1 segments 1 mtu 1500 expiry 21601 hops 2\ninfo 0 0103 1\nif 0001ff0000000111 6\nif 0001ff0000000110 3\n2 cost 1 segments 1 mtu 1500 expiry 21601 hops 2\ninfo 1 0001 1\nif 0001ff0000000111 1\nif 0001ff0000000110 2\n"
     -- peer 1 before peer 2
     ∷ prints (others (segment 1 1 (linked a110 0 0 (link a114 1 1 ∷ link a112 2 2 ∷ link a112 3 3 ∷ []) ∷ []) ∷ segment 1 2 (linked a112 0 0 (link a110 3 3 ∷ link a110 2 2 ∷ []) ∷ []) ∷ [])) a110 a112
     "solutions 2 paths 2\n1 cost 1 segments 2 mtu 1500 expiry 21601 hops 2\ninfo 2 0103 1\ninfo 3 0100 1\nif 0001ff0000000110 2\nif 0001ff0000000112 2\n2 cost 1 segments 2 mtu 1500 expiry 21601 hops 2\ninfo 2 0103 1\ninfo 3 0100 1\nif 0001ff0000000110 3\nif 0001ff0000000112 3\n"
