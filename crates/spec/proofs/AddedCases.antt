@@ -357,6 +357,9 @@ table =
     -- the Rust: non-core and core, core and non-core
     ∷ case (print (input threeBook a112 a111)) (Printed.ascii "solutions 1 paths 1\n1 cost 2 segments 2 mtu 1280 expiry 15462 hops 4\ninfo 0 1102 6000\ninfo 1 2000 5000\nif 0001ff0000000112 2\nif 0001ff0000000110 1\nif 0001ff0000000110 11\nif 0001ff0000000111 12\n")
     ∷ case (print (input threeBook a110 a113)) (Printed.ascii "solutions 1 paths 1\n1 cost 2 segments 2 mtu 1280 expiry 11087 hops 4\ninfo 1 2000 5000\ninfo 1 3000 4000\nif 0001ff0000000110 11\nif 0001ff0000000111 12\nif 0001ff0000000111 3\nif 0001ff0000000113 4\n")
+    -- the Rust: a core against construction, after and before a non-core
+    ∷ case (list threeBook a113 a110 16) (1 ∷ solution 2 (edge 2 0 0 0 ∷ edge 0 0 0 0 ∷ []))
+    ∷ case (list threeBook a111 a112 16) (1 ∷ solution 2 (edge 0 0 0 0 ∷ edge 1 0 0 1 ∷ []))
     -- the Rust: the bytes of the path of three edges, and the ids held
     ∷ case (assemble threeBook a112 a113 (solution 3 (edge 1 0 0 0 ∷ edge 0 0 0 1 ∷ edge 2 0 0 1 ∷ [])) pathSize) (0
     ∷ 3 ∷ 6 ∷ 6 ∷ 0 ∷ 5 ∷ 0 ∷ 0 ∷ 0 ∷ 0x2b ∷ 0x4f
@@ -446,6 +449,7 @@ table =
     ∷ case (accept (0 ∷ 0 ∷ 0 ∷ 1 ∷ replicate 13 0)) (1 ∷ [])
     ∷ case (accept (replicate 7 0 ++ (1 ∷ []))) (1 ∷ [])
     ∷ case (accept (replicate 5 0 ++ (1 ∷ 0 ∷ 0 ∷ []))) (1 ∷ [])
+    ∷ case (accept (replicate 4 0 ++ (1 ∷ 0 ∷ 0 ∷ 0 ∷ []))) (1 ∷ [])
     -- 2: a byte more; also where a head has 17 entries
     ∷ case (accept (replicate 9 0)) (2 ∷ [])
     ∷ case (accept (sized 0 1 0 (says 17 0 ∷ []) (0 ∷ []))) (2 ∷ [])
@@ -458,6 +462,7 @@ table =
     ∷ case (accept (0 ∷ 0 ∷ 0 ∷ 65 ∷ replicate 4 0)) (4 ∷ [])
     ∷ case (accept (0 ∷ 32 ∷ 0 ∷ 33 ∷ replicate 4 0)) (4 ∷ [])
     ∷ case (accept (1 ∷ 0 ∷ replicate 6 0)) (4 ∷ [])
+    ∷ case (accept (0 ∷ 0 ∷ 1 ∷ replicate 5 0)) (4 ∷ [])
     ∷ case (accept (0 ∷ 65 ∷ replicate 657 0)) (4 ∷ [])
     -- accepted: a core, and a non-core, with no entries
     ∷ case (accept (0 ∷ 1 ∷ replicate 16 0)) (0 ∷ [])
@@ -465,17 +470,26 @@ table =
     -- 5: over all heads, before the sum and every body
     ∷ case (accept (sized 0 2 26 (says 1 26 ∷ says 17 0 ∷ []) (blank 5))) (5 ∷ [])
     ∷ case (accept (sized 0 2 26 (says 1 25 ∷ says 17 0 ∷ []) (blank 0))) (5 ∷ [])
+    ∷ case (accept (sized 1 0 0 (says 17 0 ∷ []) [])) (5 ∷ [])
+    -- 5: 256 entries
+    ∷ case (accept (sized 0 1 0 ((replicate 6 0 ++ (1 ∷ 0 ∷ 0 ∷ 0 ∷ [])) ∷ []) [])) (5 ∷ [])
     -- 7: the lengths do not sum to B, here where every body is filled; before 6
     ∷ case (accept (sized 0 1 27 (says 1 26 ∷ []) (blank 0 ++ (0 ∷ [])))) (7 ∷ [])
     ∷ case (accept (sized 0 1 142 (says 1 141 ∷ []) (blank 5 ++ replicate 116 0))) (7 ∷ [])
-    -- 7: a body one byte short, one byte long, an empty one with a byte
+    -- 7: they sum to more, where a body past the end would be filled; a length of 4096
+    ∷ case (accept (sized 0 1 0 (says 1 26 ∷ []) [])) (7 ∷ [])
+    ∷ case (accept (sized 0 1 0 ((replicate 8 0 ++ (16 ∷ 0 ∷ [])) ∷ []) [])) (7 ∷ [])
+    -- 7: a body one byte short, one byte long, an empty one with a byte; the second body one byte long
     ∷ case (accept (sized 0 1 25 (says 1 25 ∷ []) (replicate 25 0))) (7 ∷ [])
     ∷ case (accept (sized 0 1 27 (says 1 27 ∷ []) (blank 0 ++ (0 ∷ [])))) (7 ∷ [])
     ∷ case (accept (sized 0 1 1 (says 0 1 ∷ []) (0 ∷ []))) (7 ∷ [])
-    -- 6: five peers, also where their bytes are lacking, and at the second entry; four pass
+    ∷ case (accept (sized 0 2 53 (says 1 26 ∷ says 1 27 ∷ []) (blank 0 ++ blank 0 ++ (0 ∷ [])))) (7 ∷ [])
+    -- 6: five peers, also where their bytes are lacking, at the second entry and at the first of two; six; four pass
     ∷ case (accept (sized 0 1 141 (says 1 141 ∷ []) (blank 5 ++ replicate 115 0))) (6 ∷ [])
     ∷ case (accept (sized 0 1 26 (says 1 26 ∷ []) (blank 5))) (6 ∷ [])
     ∷ case (accept (sized 0 1 52 (says 2 52 ∷ []) (blank 0 ++ blank 5))) (6 ∷ [])
+    ∷ case (accept (sized 0 1 52 (says 2 52 ∷ []) (blank 5 ++ blank 0))) (6 ∷ [])
+    ∷ case (accept (sized 0 1 26 (says 1 26 ∷ []) (blank 6))) (6 ∷ [])
     ∷ case (accept (sized 0 1 118 (says 1 118 ∷ []) (blank 4 ++ replicate 92 0))) (0 ∷ [])
     -- 7: a peer one byte short or long; an entry that lacks a byte, before its peer count is looked at
     ∷ case (accept (sized 0 1 48 (says 1 48 ∷ []) (blank 1 ++ replicate 22 0))) (7 ∷ [])
@@ -486,6 +500,7 @@ table =
     ∷ case (accept (sized 1 1 53 (says 1 26 ∷ says 1 27 ∷ []) (blank 5 ++ blank 0 ++ (0 ∷ [])))) (6 ∷ [])
     -- a refused book: listing and assembly give its number, whatever else is wrong, and zeros
     ∷ case (list (replicate 9 0) a111 a110 20) (65538 ∷ replicate 20 0)
+    ∷ case (list (replicate 9 0) a111 a110 0) (65538 ∷ [])
     ∷ case (assemble (replicate 9 0) a111 a110 [] 3) (65538 ∷ replicate 3 0)
     -- document 01: 9 below 1538 bytes, and before 10
     ∷ case (assemble workedBytes a111 a110 (0 ∷ 1 ∷ 1 ∷ replicate 13 0) 1537) (65545 ∷ replicate 1537 0)
