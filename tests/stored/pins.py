@@ -115,14 +115,23 @@ def question(kind):
 
 # What CasesForm defines by more than a number or a list.
 FORMS = {
-    "[]": [], "replicate": lambda n, x: [x] * n, "length": len, "flatMap": lambda f, xs: joined(map(f, xs)), "pathSize": PATH_SIZE,
+    "[]": [], "replicate": lambda n, x: [x] * n, "length": len, "take": lambda n, xs: xs[:n], "drop": lambda n, xs: xs[n:], "flatMap": lambda f, xs: joined(map(f, xs)), "pathSize": PATH_SIZE,
     "octets2": number(2), "octets4": number(4), "octets8": number(8), "Printed.ascii": lambda t: list(t.encode()), "ascii": lambda t: list(t.encode()),
     "entry": entry, "peer": peer, "segment": lambda timestamp, ident, entries: (timestamp, ident, entries), "book": book,
     "edge": lambda *numbers: list(numbers), "solution": solution, "input": lambda b, src, dst: list(struct.pack(">QQ", src, dst)) + b,
     "case": lambda asked, expected: (asked, expected),
-    **{kind: question(kind) for kind in ("accept", "list", "print", "assemble", "hold", "room", "live")},
+    **{kind: question(kind) for kind in ("accept", "list", "print", "assemble", "least", "sketch", "hold", "room", "live")},
 }
 DEFINITION = re.compile(r"^(?:unfoldable |abbrev )?(?:pub )?(\w+) : [^\n]*\n\1((?: \w+)*) =\n?(.*?)(?=\n\n|\Z)", re.S | re.M)
+
+
+def function(parameters, body, names):
+    """Of its parameters; with fewer it waits for the others."""
+    def called(*given):
+        if len(given) < len(parameters):
+            return lambda *others: called(*given, *others)
+        return Expression(body, {**names, **dict(zip(parameters, given))}).whole()
+    return called
 
 
 def definitions(name, names):
@@ -131,10 +140,10 @@ def definitions(name, names):
         text = f.read()
     for m in DEFINITION.finditer(text):
         called, parameters, body = m.group(1), m.group(2).split(), m.group(3)
-        if called in FORMS or called in ("isdAsn", "body", "head", "answer", "right", "unhashed"):
+        if called in FORMS or called in ("isdAsn", "body", "head", "sketchOf", "answer", "right", "unhashed"):
             continue
         if parameters:
-            names[called] = lambda *given, p=parameters, b=body: Expression(b, {**names, **dict(zip(p, given))}).whole()
+            names[called] = function(parameters, body, names)
         else:
             names[called] = Expression(body, names).whole()
     return names
@@ -154,7 +163,7 @@ def asked(words):
     """Source, destination and book of a question, or None."""
     if words[0] == "print" and len(words[1]) >= 16:
         return bytes(words[1])
-    if words[0] in ("list", "assemble", "hold"):
+    if words[0] in ("list", "assemble", "least", "sketch", "hold"):
         return struct.pack(">QQ", words[2], words[3]) + bytes(words[1])
     return None
 
@@ -230,6 +239,15 @@ def held(path):
     return found
 
 
+def least(path):
+    return list(struct.unpack_from(">HI", path, 4))
+
+
+def sketch(path):
+    infos, hops, interfaces = parts(path)
+    return joined((flags, count, ident) for flags, count, ident, _ in infos) + joined(hop[1:3] for hop in hops) + [i for _, i in interfaces]
+
+
 def printed(solutions):
     lines = [f"solutions {len(solutions)} paths {sum(answer == 0 for _, answer, _ in solutions)}"]
     for k, (r, answer, path) in enumerate(solutions, 1):
@@ -253,6 +271,9 @@ def by(solutions, words):
         return list(printed(solutions).encode())
     if words[0] == "assemble":
         return assembled(solutions, words[4], words[5])
+    if words[0] in ("least", "sketch"):
+        assert all(answer == 0 for _, answer, _ in solutions)
+        return joined((least if words[0] == "least" else sketch)(path) for _, _, path in solutions)
     path = next(path for r, answer, path in solutions if list(r) == words[4] and answer == 0)
     return held(path)
 

@@ -24,7 +24,7 @@ use Rattle.spec.specs.Router
 use Rattle.spec.specs.Answers
 use Rattle.spec.specs.Printed
 use Rattle.spec.proofs.PinnedCases
-use Rattle.spec.proofs.CasesForm.{entry, peer, segment, book, edge, solution, accept, list, print, assemble, hold, room, input, Case, case, answer, right, every, a0, a110, a111, a112, a113, a114, b110, mac0, mac1, mac2, mac3}
+use Rattle.spec.proofs.CasesForm.{entry, peer, segment, book, edge, solution, accept, list, print, assemble, hold, room, input, Case, case, sketchOf, answer, right, every, a0, a110, a111, a112, a113, a114, b110, mac0, mac1, mac2, mac3}
 
 -- ---- the books
 
@@ -537,7 +537,7 @@ unfoldable pub unhashed : List ℕ → List ℕ
 unhashed m = m
 
 pub all-right : T (every (right unhashed) (table ++ PinnedCases.table) && every (right Message.sha256) hashed)
-unfolding table hashed PinnedCases.table unhashed every right answer flatMap
+unfolding table hashed PinnedCases.table unhashed every right answer sketchOf flatMap
     Basics.any Basics.filter Basics.range Basics.sum Basics.sameList Basics.padded
     Octets.be16 Octets.be32 Octets.be64 Octets.octets2 Octets.octets4 Octets.octets8
     Book.cores Book.nonCores Book.bodyTotal Book.segmentCount Book.headOffset Book.timestampAt Book.idAt Book.entryCountAt Book.bodyLengthAt

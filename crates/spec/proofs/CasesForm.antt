@@ -1,16 +1,17 @@
 -- How a table of cases is written: books field by field, questions, their answers by the definitions, and the test of a whole table.
 -- Assumes nothing.
-use Prim.Native.Nat.{ℕ, _-_, _*_}
+use Prim.Native.Nat.{ℕ, _+_, _-_, _*_}
 use mathlib.Core.Bool.{Bool, true, _&&_}
-use mathlib.Core.List.{List, [], _∷_, _++_, flatMap}
+use mathlib.Core.List.{List, [], _∷_, _++_, map, flatMap}
 use lib.ListN.{length, replicate}
 use Rattle.spec.specs.declared.IsdAsn.{IsdAsn}
 use Rattle.spec.specs.Limits.{pathSize}
 use Rattle.spec.specs.Basics.{sameList}
 use Rattle.spec.specs.Octets.{octets2, octets4, octets8}
 use Rattle.spec.specs.Book.{verdict}
-use Rattle.spec.specs.Assembly.{life}
-use Rattle.spec.specs.Records.{slots}
+use Rattle.spec.specs.Order.{solutions}
+use Rattle.spec.specs.Assembly.{CombinedPath, combinedPath, life}
+use Rattle.spec.specs.Records.{bit, slots}
 use Rattle.spec.specs.Router.{routerIds}
 use Rattle.spec.specs.Answers.{Listed, Assembled, listing, assembly, verdictNumber, listNumber, pathNumber}
 use Rattle.spec.specs.Printed.{printed}
@@ -69,6 +70,10 @@ pub data Question : Type 0 where
   print : List ℕ → Question
   -- the path of a record, in so many bytes
   assemble : List ℕ → ℕ → ℕ → List ℕ → ℕ → Question
+  -- of every path from a source to a destination, in order: MTU and expiry
+  least : List ℕ → ℕ → ℕ → Question
+  -- of every path: flags, hop count and id of each info, ingress and egress of each hop, all interface ids
+  sketch : List ℕ → ℕ → ℕ → Question
   -- the ids that a router holds at the hops of that path
   hold : List ℕ → ℕ → ℕ → List ℕ → Question
   -- how many solutions fit in so many bytes?
@@ -83,6 +88,12 @@ isdAsn n = record { 0 = n }
 abbrev pub input : List ℕ → ℕ → ℕ → List ℕ
 input b src dst = octets8 src ++ octets8 dst ++ b
 
+unfoldable pub sketchOf : CombinedPath → List ℕ
+sketchOf p =
+    flatMap (λ i. (bit (i .construction) + 2 * bit (i .peering)) ∷ i .hops ∷ i .id ∷ []) (p .infos)
+    ++ flatMap (λ h. h .ingress ∷ h .egress ∷ []) (p .hops)
+    ++ map (λ x. x .id) (p .interfaces)
+
 unfoldable pub answer : (List ℕ → List ℕ) → Question → List ℕ
 answer digest (accept b) = verdictNumber (verdict b) ∷ []
 answer digest (list b src dst bytes) =
@@ -92,6 +103,9 @@ answer digest (print i) = printed digest i
 answer digest (assemble b src dst given bytes) =
     let a : Assembled = assembly b (isdAsn src) (isdAsn dst) given bytes in
     pathNumber (a .0) ∷ a .1
+answer digest (least b src dst) =
+    flatMap (λ c. combinedPath b c .mtu ∷ combinedPath b c .expiry ∷ []) (solutions digest b (isdAsn src) (isdAsn dst))
+answer digest (sketch b src dst) = flatMap (λ c. sketchOf (combinedPath b c)) (solutions digest b (isdAsn src) (isdAsn dst))
 answer digest (hold b src dst given) = routerIds (assembly b (isdAsn src) (isdAsn dst) given pathSize .1)
 answer digest (room bytes) = slots bytes ∷ []
 answer digest (live units) = life units ∷ []
