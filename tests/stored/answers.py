@@ -20,6 +20,7 @@ from booktext.layout import ENDS, PATH_HEAD, FINGERPRINTED
 import batch  # noqa: E402
 import cases  # noqa: E402
 import gen  # noqa: E402
+import pins  # noqa: E402
 
 SEED = "stored"
 PROFILES = {"tiny": 900, "small": 900, "copies": 700, "peering": 900, "three": 700, "network": 500, "loops": 500, "bare": 300,
@@ -133,6 +134,14 @@ def main():
         if i >= always and (len(case) > SMALL + ENDS.size or len(sols) > FEW or all(seen[x] >= ENOUGH for x in found)):
             continue
         seen.update(found)
+        kept.append(stored(case, sols))
+        count += 1
+        solutions.update(s["verdict"] for s in sols)
+    # Those of the tables of spec, whatever they show.
+    tables = [case for case in pins.inputs() if not any(k[4:4 + len(case)] == case for k in kept)]
+    for case, sols in zip(tables, answers(oracle, tables), strict=True):
+        segments = batch.book(case[16:])[1]
+        sols.sort(key=lambda s: (order(segments, s), [e[0] for e in s["edges"]]))
         kept.append(stored(case, sols))
         count += 1
         solutions.update(s["verdict"] for s in sols)

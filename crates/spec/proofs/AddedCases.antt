@@ -2,7 +2,7 @@
 -- records. Beside each answer stands where it is from: the Rust (its `get_paths` and `path`, run unchanged), document 01, or worked out by hand.
 -- The fingerprint's digest is SHA-256.
 -- Assumes nothing.
-use Prim.Native.Nat.{ℕ}
+use Prim.Native.Nat.{ℕ, _+_, _-_}
 use mathlib.Core.Bool.{_&&_}
 use mathlib.Core.List.{List, [], _∷_, _++_, flatMap}
 use lib.ListN.{length, replicate}
@@ -11,6 +11,7 @@ use Rattle.sha256.specs.Words
 use Rattle.sha256.specs.Constants
 use Rattle.sha256.specs.Hash
 use Rattle.sha256.specs.Message
+use Rattle.spec.specs.Limits.{pathSize}
 use Rattle.spec.specs.Basics
 use Rattle.spec.specs.Octets
 use Rattle.spec.specs.Book
@@ -22,28 +23,8 @@ use Rattle.spec.specs.Records
 use Rattle.spec.specs.Router
 use Rattle.spec.specs.Answers
 use Rattle.spec.specs.Printed
-use Rattle.spec.proofs.CasesForm.{entry, peer, segment, book, edge, solution, accept, list, print, assemble, hold, room, input, Case, case, answer, right, every, a110, a111, a112, mac0, mac1}
-
--- ---- more ASes and MACs
-
-abbrev pub a0 : ℕ
-a0 = 0
-
-abbrev pub a113 : ℕ
-a113 = 0x0001_ff00_0000_0113
-
-abbrev pub a114 : ℕ
-a114 = 0x0001_ff00_0000_0114
-
--- a110's AS number in another ISD
-abbrev pub b110 : ℕ
-b110 = 0x0002_ff00_0000_0110
-
-abbrev pub mac2 : List ℕ
-mac2 = 0x20 ∷ 0x31 ∷ 0x42 ∷ 0x53 ∷ 0x64 ∷ 0x75 ∷ []
-
-abbrev pub mac3 : List ℕ
-mac3 = 0x86 ∷ 0x97 ∷ 0xa8 ∷ 0xb9 ∷ 0xca ∷ 0xdb ∷ []
+use Rattle.spec.proofs.PinnedCases
+use Rattle.spec.proofs.CasesForm.{entry, peer, segment, book, edge, solution, accept, list, print, assemble, hold, room, input, Case, case, sketchOf, answer, right, every, a0, a110, a111, a112, a113, a114, b110, mac0, mac1, mac2, mac3}
 
 -- ---- the books
 
@@ -292,7 +273,7 @@ blank peers = replicate 25 0 ++ (peers ∷ [])
 -- where the fingerprint's input orders as its digest does, or does not matter: the digest hands its input back
 pub table : List Case
 table =
-    -- document 01: the worked list as bytes, its record, and its path: the number, then counts, MTU, expiry; first and last AS; infos; hops; interface ASes; ids
+    -- document 01: the worked list as bytes, its record, and its path in 1538 bytes: the number, then counts, MTU, expiry; first and last AS; infos; hops; interface ASes; ids
     case (list workedBytes a111 a110 20) (1 ∷ 0 ∷ 1 ∷ 1 ∷ replicate 17 0)
     ∷ case (assemble workedBytes a111 a110 (0 ∷ 1 ∷ 1 ∷ replicate 13 0) 1538) (0
     ∷ 1 ∷ 2 ∷ 2 ∷ 0 ∷ 5 ∷ 0x46 ∷ 0 ∷ 0x0f ∷ 0x96 ∷ 0xa0
@@ -304,7 +285,7 @@ table =
     ∷ 0 ∷ 1 ∷ 0xff ∷ 0 ∷ 0 ∷ 0 ∷ 1 ∷ 0x10
     ∷ 0 ∷ 7 ∷ 0 ∷ 5
     ∷ replicate 1462 0)
-    ∷ case (assemble workedBytes a110 a111 (0 ∷ 1 ∷ 1 ∷ replicate 4 0 ++ (1 ∷ replicate 8 0)) 1540) (0
+    ∷ case (assemble workedBytes a110 a111 (0 ∷ 1 ∷ 1 ∷ replicate 4 0 ++ (1 ∷ replicate 8 0)) (pathSize + 2)) (0
     ∷ 1 ∷ 2 ∷ 2 ∷ 0 ∷ 5 ∷ 0x46 ∷ 0 ∷ 0x0f ∷ 0x96 ∷ 0xa0
     ∷ 0 ∷ 1 ∷ 0xff ∷ 0 ∷ 0 ∷ 0 ∷ 1 ∷ 0x10 ∷ 0 ∷ 1 ∷ 0xff ∷ 0 ∷ 0 ∷ 0 ∷ 1 ∷ 0x11
     ∷ 1 ∷ 2 ∷ 0x12 ∷ 0x34 ∷ 0 ∷ 0x0f ∷ 0x42 ∷ 0x40
@@ -313,7 +294,7 @@ table =
     ∷ 0 ∷ 1 ∷ 0xff ∷ 0 ∷ 0 ∷ 0 ∷ 1 ∷ 0x10
     ∷ 0 ∷ 1 ∷ 0xff ∷ 0 ∷ 0 ∷ 0 ∷ 1 ∷ 0x11
     ∷ 0 ∷ 5 ∷ 0 ∷ 7
-    ∷ replicate 1464 0)
+    ∷ replicate (pathSize - 74) 0)
     -- document 01: the same AS number in another ISD is another AS
     ∷ case (list workedBytes b110 a111 16) (0 ∷ replicate 16 0)
     ∷ case (list workedBytes a111 b110 16) (0 ∷ replicate 16 0)
@@ -325,7 +306,7 @@ table =
     ∷ case (print (input shortBook a110 a112)) (Printed.ascii "solutions 1 paths 1\n1 cost 2 segments 1 mtu 90 expiry 3025 hops 3\ninfo 1 1234 1000\nif 0001ff0000000110 9\nif 0001ff0000000110 1\nif 0001ff0000000111 2\nif 0001ff0000000111 3\nif 0001ff0000000112 4\n")
     ∷ case (list shortBook a110 a111 16) (1 ∷ solution 3 (edge 0 0 0 1 ∷ edge 0 1 0 0 ∷ []))
     -- the Rust: the bytes of the path to the shortcut
-    ∷ case (assemble shortBook a112 a111 (solution 1 (edge 0 1 0 0 ∷ [])) 1538) (0
+    ∷ case (assemble shortBook a112 a111 (solution 1 (edge 0 1 0 0 ∷ [])) pathSize) (0
     ∷ 1 ∷ 2 ∷ 2 ∷ 0 ∷ 5 ∷ 0x14 ∷ 0 ∷ 0 ∷ 0x54 ∷ 0x53
     ∷ 0 ∷ 1 ∷ 0xff ∷ 0 ∷ 0 ∷ 0 ∷ 1 ∷ 0x12 ∷ 0 ∷ 1 ∷ 0xff ∷ 0 ∷ 0 ∷ 0 ∷ 1 ∷ 0x11
     ∷ 0 ∷ 2 ∷ 0x19 ∷ 0x3d ∷ 0 ∷ 0 ∷ 3 ∷ 0xe8
@@ -334,7 +315,7 @@ table =
     ∷ 0 ∷ 1 ∷ 0xff ∷ 0 ∷ 0 ∷ 0 ∷ 1 ∷ 0x12
     ∷ 0 ∷ 1 ∷ 0xff ∷ 0 ∷ 0 ∷ 0 ∷ 1 ∷ 0x11
     ∷ 0 ∷ 4 ∷ 0 ∷ 3
-    ∷ replicate 1462 0)
+    ∷ replicate (pathSize - 76) 0)
     -- the ids held: the router rule by hand over the Rust's paths
     ∷ case (hold shortBook a112 a111 (solution 1 (edge 0 1 0 0 ∷ []))) (0x193d ∷ 0x1336 ∷ [])
     ∷ case (hold shortBook a111 a112 (solution 1 (edge 0 1 0 1 ∷ []))) (0x1336 ∷ 0x193d ∷ [])
@@ -345,7 +326,7 @@ table =
     ∷ case (print (input peeringBook a113 a112)) (Printed.ascii "solutions 2 paths 2\n1 cost 2 segments 2 mtu 1200 expiry 22087 hops 3\ninfo 2 8484 1500\ninfo 3 1a18 2000\nif 0001ff0000000113 21\nif 0001ff0000000111 22\nif 0001ff0000000111 13\nif 0001ff0000000112 4\n2 cost 2 segments 2 mtu 0 expiry 22762 hops 3\ninfo 2 8484 1500\ninfo 3 1a18 2000\nif 0001ff0000000113 6\nif 0001ff0000000113 31\nif 0001ff0000000111 32\nif 0001ff0000000111 13\nif 0001ff0000000112 4\n")
     ∷ case (list peeringBook a112 a113 32) (2 ∷ (solution 2 (edge 0 1 1 0 ∷ edge 1 1 1 1 ∷ []) ++ solution 2 (edge 0 1 2 0 ∷ edge 1 1 2 1 ∷ [])))
     -- the Rust: the bytes of the second path
-    ∷ case (assemble peeringBook a113 a112 (solution 2 (edge 1 1 2 0 ∷ edge 0 1 2 1 ∷ [])) 1538) (0
+    ∷ case (assemble peeringBook a113 a112 (solution 2 (edge 1 1 2 0 ∷ edge 0 1 2 1 ∷ [])) pathSize) (0
     ∷ 2 ∷ 3 ∷ 5 ∷ 0 ∷ 0 ∷ 0 ∷ 0 ∷ 0 ∷ 0x58 ∷ 0xea
     ∷ 0 ∷ 1 ∷ 0xff ∷ 0 ∷ 0 ∷ 0 ∷ 1 ∷ 0x13 ∷ 0 ∷ 1 ∷ 0xff ∷ 0 ∷ 0 ∷ 0 ∷ 1 ∷ 0x12
     ∷ 2 ∷ 1 ∷ 0x84 ∷ 0x84 ∷ 0 ∷ 0 ∷ 5 ∷ 0xdc
@@ -359,7 +340,7 @@ table =
     ∷ 0 ∷ 1 ∷ 0xff ∷ 0 ∷ 0 ∷ 0 ∷ 1 ∷ 0x11
     ∷ 0 ∷ 1 ∷ 0xff ∷ 0 ∷ 0 ∷ 0 ∷ 1 ∷ 0x12
     ∷ 0 ∷ 6 ∷ 0 ∷ 0x1f ∷ 0 ∷ 0x20 ∷ 0 ∷ 0x0d ∷ 0 ∷ 4
-    ∷ replicate 1413 0)
+    ∷ replicate (pathSize - 125) 0)
     -- the ids held: the router rule by hand over the Rust's paths
     ∷ case (hold peeringBook a112 a113 (solution 2 (edge 0 1 1 0 ∷ edge 1 1 1 1 ∷ []))) (0x1a18 ∷ 0x1a18 ∷ 0x8484 ∷ [])
     ∷ case (hold peeringBook a113 a112 (solution 2 (edge 1 1 1 0 ∷ edge 0 1 1 1 ∷ []))) (0x8484 ∷ 0x1a18 ∷ 0x1a18 ∷ [])
@@ -376,8 +357,11 @@ table =
     -- the Rust: non-core and core, core and non-core
     ∷ case (print (input threeBook a112 a111)) (Printed.ascii "solutions 1 paths 1\n1 cost 2 segments 2 mtu 1280 expiry 15462 hops 4\ninfo 0 1102 6000\ninfo 1 2000 5000\nif 0001ff0000000112 2\nif 0001ff0000000110 1\nif 0001ff0000000110 11\nif 0001ff0000000111 12\n")
     ∷ case (print (input threeBook a110 a113)) (Printed.ascii "solutions 1 paths 1\n1 cost 2 segments 2 mtu 1280 expiry 11087 hops 4\ninfo 1 2000 5000\ninfo 1 3000 4000\nif 0001ff0000000110 11\nif 0001ff0000000111 12\nif 0001ff0000000111 3\nif 0001ff0000000113 4\n")
+    -- the Rust: a core against construction, after and before a non-core
+    ∷ case (list threeBook a113 a110 16) (1 ∷ solution 2 (edge 2 0 0 0 ∷ edge 0 0 0 0 ∷ []))
+    ∷ case (list threeBook a111 a112 16) (1 ∷ solution 2 (edge 0 0 0 0 ∷ edge 1 0 0 1 ∷ []))
     -- the Rust: the bytes of the path of three edges, and the ids held
-    ∷ case (assemble threeBook a112 a113 (solution 3 (edge 1 0 0 0 ∷ edge 0 0 0 1 ∷ edge 2 0 0 1 ∷ [])) 1538) (0
+    ∷ case (assemble threeBook a112 a113 (solution 3 (edge 1 0 0 0 ∷ edge 0 0 0 1 ∷ edge 2 0 0 1 ∷ [])) pathSize) (0
     ∷ 3 ∷ 6 ∷ 6 ∷ 0 ∷ 5 ∷ 0 ∷ 0 ∷ 0 ∷ 0x2b ∷ 0x4f
     ∷ 0 ∷ 1 ∷ 0xff ∷ 0 ∷ 0 ∷ 0 ∷ 1 ∷ 0x12 ∷ 0 ∷ 1 ∷ 0xff ∷ 0 ∷ 0 ∷ 0 ∷ 1 ∷ 0x13
     ∷ 0 ∷ 2 ∷ 0x11 ∷ 2 ∷ 0 ∷ 0 ∷ 0x17 ∷ 0x70
@@ -396,7 +380,7 @@ table =
     ∷ 0 ∷ 1 ∷ 0xff ∷ 0 ∷ 0 ∷ 0 ∷ 1 ∷ 0x11
     ∷ 0 ∷ 1 ∷ 0xff ∷ 0 ∷ 0 ∷ 0 ∷ 1 ∷ 0x13
     ∷ 0 ∷ 2 ∷ 0 ∷ 1 ∷ 0 ∷ 0x0b ∷ 0 ∷ 0x0c ∷ 0 ∷ 3 ∷ 0 ∷ 4
-    ∷ replicate 1362 0)
+    ∷ replicate (pathSize - 176) 0)
     ∷ case (hold threeBook a112 a113 (solution 3 (edge 1 0 0 0 ∷ edge 0 0 0 1 ∷ edge 2 0 0 1 ∷ []))) (0x1102 ∷ 0x1000 ∷ 0x2000 ∷ 0x0031 ∷ 0x3000 ∷ 0x3a0b ∷ [])
     ∷ case (hold threeBook a113 a112 (solution 3 (edge 2 0 0 0 ∷ edge 0 0 0 0 ∷ edge 1 0 0 1 ∷ []))) (0x3a0b ∷ 0x3000 ∷ 0x0031 ∷ 0x2000 ∷ 0x1000 ∷ 0x1102 ∷ [])
     -- the Rust: two segments that cross
@@ -404,10 +388,10 @@ table =
     ∷ case (hold crossBook a112 a113 (solution 2 (edge 0 1 0 0 ∷ edge 1 1 0 1 ∷ []))) (0x0103 ∷ 0x0b08 ∷ 0x8d9c ∷ 0x8c9e ∷ [])
     -- the Rust: an AS at three interfaces: loop; at two: a path
     ∷ case (print (input loopBook a110 a112)) (Printed.ascii "solutions 2 paths 1\n1 cost 2 segments 2 mtu 1500 expiry 21601 hops 4\ninfo 0 0103 1\ninfo 1 0003 1\nif 0001ff0000000110 1\nif 0001ff0000000111 1\nif 0001ff0000000111 6\nif 0001ff0000000112 1\n2 cost 2 segments 2 loop\n")
-    ∷ case (assemble loopBook a110 a112 (solution 2 (edge 0 0 0 0 ∷ edge 1 0 0 1 ∷ [])) 1538) (1 ∷ replicate 1538 0)
+    ∷ case (assemble loopBook a110 a112 (solution 2 (edge 0 0 0 0 ∷ edge 1 0 0 1 ∷ [])) pathSize) (1 ∷ replicate pathSize 0)
     -- document 01: no interfaces: bare
     ∷ case (print (input bareBook a111 a110)) (Printed.ascii "solutions 1 paths 0\n1 cost 1 segments 1 bare\n")
-    ∷ case (assemble bareBook a111 a110 (solution 1 (edge 0 0 0 0 ∷ [])) 1538) (2 ∷ replicate 1538 0)
+    ∷ case (assemble bareBook a111 a110 (solution 1 (edge 0 0 0 0 ∷ [])) pathSize) (2 ∷ replicate pathSize 0)
     -- the Rust: MTU 65535, units 255; MTU 0, expiry 4294967294
     ∷ case (print (input mtuBook a111 a110)) (Printed.ascii "solutions 1 paths 1\n1 cost 1 segments 1 mtu 65535 expiry 86401 hops 2\ninfo 0 0103 1\nif 0001ff0000000111 2\nif 0001ff0000000110 1\n")
     ∷ case (print (input mtuBook a112 a110)) (Printed.ascii "solutions 1 paths 1\n1 cost 1 segments 1 mtu 0 expiry 4294967294 hops 2\ninfo 0 0103 4294966957\nif 0001ff0000000112 2\nif 0001ff0000000110 1\n")
@@ -424,7 +408,7 @@ table =
     ∷ case (list selfBook a111 a110 32) (2 ∷ (solution 1 (edge 2 0 0 0 ∷ []) ++ solution 1 (edge 1 0 0 1 ∷ edge 2 0 0 0 ∷ [])))
     -- document 01: equal ends: no solution; a record then is a stranger's
     ∷ case (list selfBook a110 a110 16) (0 ∷ replicate 16 0)
-    ∷ case (assemble selfBook a110 a110 (solution 0 (edge 0 0 0 1 ∷ [])) 1538) (65546 ∷ replicate 1538 0)
+    ∷ case (assemble selfBook a110 a110 (solution 0 (edge 0 0 0 1 ∷ [])) pathSize) (65546 ∷ replicate pathSize 0)
     -- the Rust: segments with no entries have no edges
     ∷ case (list emptyBook a0 a110 16) (1 ∷ solution 1 (edge 2 0 0 0 ∷ []))
     -- the Rust: a core joins its first and last AS only
@@ -465,6 +449,7 @@ table =
     ∷ case (accept (0 ∷ 0 ∷ 0 ∷ 1 ∷ replicate 13 0)) (1 ∷ [])
     ∷ case (accept (replicate 7 0 ++ (1 ∷ []))) (1 ∷ [])
     ∷ case (accept (replicate 5 0 ++ (1 ∷ 0 ∷ 0 ∷ []))) (1 ∷ [])
+    ∷ case (accept (replicate 4 0 ++ (1 ∷ 0 ∷ 0 ∷ 0 ∷ []))) (1 ∷ [])
     -- 2: a byte more; also where a head has 17 entries
     ∷ case (accept (replicate 9 0)) (2 ∷ [])
     ∷ case (accept (sized 0 1 0 (says 17 0 ∷ []) (0 ∷ []))) (2 ∷ [])
@@ -477,6 +462,7 @@ table =
     ∷ case (accept (0 ∷ 0 ∷ 0 ∷ 65 ∷ replicate 4 0)) (4 ∷ [])
     ∷ case (accept (0 ∷ 32 ∷ 0 ∷ 33 ∷ replicate 4 0)) (4 ∷ [])
     ∷ case (accept (1 ∷ 0 ∷ replicate 6 0)) (4 ∷ [])
+    ∷ case (accept (0 ∷ 0 ∷ 1 ∷ replicate 5 0)) (4 ∷ [])
     ∷ case (accept (0 ∷ 65 ∷ replicate 657 0)) (4 ∷ [])
     -- accepted: a core, and a non-core, with no entries
     ∷ case (accept (0 ∷ 1 ∷ replicate 16 0)) (0 ∷ [])
@@ -484,17 +470,26 @@ table =
     -- 5: over all heads, before the sum and every body
     ∷ case (accept (sized 0 2 26 (says 1 26 ∷ says 17 0 ∷ []) (blank 5))) (5 ∷ [])
     ∷ case (accept (sized 0 2 26 (says 1 25 ∷ says 17 0 ∷ []) (blank 0))) (5 ∷ [])
+    ∷ case (accept (sized 1 0 0 (says 17 0 ∷ []) [])) (5 ∷ [])
+    -- 5: 256 entries
+    ∷ case (accept (sized 0 1 0 ((replicate 6 0 ++ (1 ∷ 0 ∷ 0 ∷ 0 ∷ [])) ∷ []) [])) (5 ∷ [])
     -- 7: the lengths do not sum to B, here where every body is filled; before 6
     ∷ case (accept (sized 0 1 27 (says 1 26 ∷ []) (blank 0 ++ (0 ∷ [])))) (7 ∷ [])
     ∷ case (accept (sized 0 1 142 (says 1 141 ∷ []) (blank 5 ++ replicate 116 0))) (7 ∷ [])
-    -- 7: a body one byte short, one byte long, an empty one with a byte
+    -- 7: they sum to more, where a body past the end would be filled; a length of 4096
+    ∷ case (accept (sized 0 1 0 (says 1 26 ∷ []) [])) (7 ∷ [])
+    ∷ case (accept (sized 0 1 0 ((replicate 8 0 ++ (16 ∷ 0 ∷ [])) ∷ []) [])) (7 ∷ [])
+    -- 7: a body one byte short, one byte long, an empty one with a byte; the second body one byte long
     ∷ case (accept (sized 0 1 25 (says 1 25 ∷ []) (replicate 25 0))) (7 ∷ [])
     ∷ case (accept (sized 0 1 27 (says 1 27 ∷ []) (blank 0 ++ (0 ∷ [])))) (7 ∷ [])
     ∷ case (accept (sized 0 1 1 (says 0 1 ∷ []) (0 ∷ []))) (7 ∷ [])
-    -- 6: five peers, also where their bytes are lacking, and at the second entry; four pass
+    ∷ case (accept (sized 0 2 53 (says 1 26 ∷ says 1 27 ∷ []) (blank 0 ++ blank 0 ++ (0 ∷ [])))) (7 ∷ [])
+    -- 6: five peers, also where their bytes are lacking, at the second entry and at the first of two; six; four pass
     ∷ case (accept (sized 0 1 141 (says 1 141 ∷ []) (blank 5 ++ replicate 115 0))) (6 ∷ [])
     ∷ case (accept (sized 0 1 26 (says 1 26 ∷ []) (blank 5))) (6 ∷ [])
     ∷ case (accept (sized 0 1 52 (says 2 52 ∷ []) (blank 0 ++ blank 5))) (6 ∷ [])
+    ∷ case (accept (sized 0 1 52 (says 2 52 ∷ []) (blank 5 ++ blank 0))) (6 ∷ [])
+    ∷ case (accept (sized 0 1 26 (says 1 26 ∷ []) (blank 6))) (6 ∷ [])
     ∷ case (accept (sized 0 1 118 (says 1 118 ∷ []) (blank 4 ++ replicate 92 0))) (0 ∷ [])
     -- 7: a peer one byte short or long; an entry that lacks a byte, before its peer count is looked at
     ∷ case (accept (sized 0 1 48 (says 1 48 ∷ []) (blank 1 ++ replicate 22 0))) (7 ∷ [])
@@ -505,22 +500,23 @@ table =
     ∷ case (accept (sized 1 1 53 (says 1 26 ∷ says 1 27 ∷ []) (blank 5 ++ blank 0 ++ (0 ∷ [])))) (6 ∷ [])
     -- a refused book: listing and assembly give its number, whatever else is wrong, and zeros
     ∷ case (list (replicate 9 0) a111 a110 20) (65538 ∷ replicate 20 0)
+    ∷ case (list (replicate 9 0) a111 a110 0) (65538 ∷ [])
     ∷ case (assemble (replicate 9 0) a111 a110 [] 3) (65538 ∷ replicate 3 0)
-    -- document 01: 9 before 10
+    -- document 01: 9 below 1538 bytes, and before 10
     ∷ case (assemble workedBytes a111 a110 (0 ∷ 1 ∷ 1 ∷ replicate 13 0) 1537) (65545 ∷ replicate 1537 0)
-    ∷ case (assemble workedBytes a111 a110 (replicate 16 0) 1537) (65545 ∷ replicate 1537 0)
+    ∷ case (assemble workedBytes a111 a110 (replicate 16 0) (pathSize - 1)) (65545 ∷ replicate (pathSize - 1) 0)
     -- document 01: 10: another cost, count, third byte, position, shortcut, peer, direction; an unused edge that is not zero; 15 bytes, 17 bytes; the ends turned round
-    ∷ case (assemble workedBytes a111 a110 (0 ∷ 2 ∷ 1 ∷ replicate 13 0) 1538) (65546 ∷ replicate 1538 0)
-    ∷ case (assemble workedBytes a111 a110 (0 ∷ 1 ∷ 2 ∷ replicate 13 0) 1538) (65546 ∷ replicate 1538 0)
-    ∷ case (assemble workedBytes a111 a110 (0 ∷ 1 ∷ 1 ∷ 1 ∷ replicate 12 0) 1538) (65546 ∷ replicate 1538 0)
-    ∷ case (assemble workedBytes a111 a110 (solution 1 (edge 1 0 0 0 ∷ [])) 1538) (65546 ∷ replicate 1538 0)
-    ∷ case (assemble workedBytes a111 a110 (solution 1 (edge 0 1 0 0 ∷ [])) 1538) (65546 ∷ replicate 1538 0)
-    ∷ case (assemble workedBytes a111 a110 (solution 1 (edge 0 0 1 0 ∷ [])) 1538) (65546 ∷ replicate 1538 0)
-    ∷ case (assemble workedBytes a111 a110 (solution 1 (edge 0 0 0 1 ∷ [])) 1538) (65546 ∷ replicate 1538 0)
-    ∷ case (assemble workedBytes a111 a110 (0 ∷ 1 ∷ 1 ∷ replicate 12 0 ++ (1 ∷ [])) 1538) (65546 ∷ replicate 1538 0)
-    ∷ case (assemble workedBytes a111 a110 (0 ∷ 1 ∷ 1 ∷ replicate 12 0) 1538) (65546 ∷ replicate 1538 0)
-    ∷ case (assemble workedBytes a111 a110 (0 ∷ 1 ∷ 1 ∷ replicate 14 0) 1538) (65546 ∷ replicate 1538 0)
-    ∷ case (assemble workedBytes a110 a111 (0 ∷ 1 ∷ 1 ∷ replicate 13 0) 1538) (65546 ∷ replicate 1538 0)
+    ∷ case (assemble workedBytes a111 a110 (0 ∷ 2 ∷ 1 ∷ replicate 13 0) pathSize) (65546 ∷ replicate pathSize 0)
+    ∷ case (assemble workedBytes a111 a110 (0 ∷ 1 ∷ 2 ∷ replicate 13 0) pathSize) (65546 ∷ replicate pathSize 0)
+    ∷ case (assemble workedBytes a111 a110 (0 ∷ 1 ∷ 1 ∷ 1 ∷ replicate 12 0) pathSize) (65546 ∷ replicate pathSize 0)
+    ∷ case (assemble workedBytes a111 a110 (solution 1 (edge 1 0 0 0 ∷ [])) pathSize) (65546 ∷ replicate pathSize 0)
+    ∷ case (assemble workedBytes a111 a110 (solution 1 (edge 0 1 0 0 ∷ [])) pathSize) (65546 ∷ replicate pathSize 0)
+    ∷ case (assemble workedBytes a111 a110 (solution 1 (edge 0 0 1 0 ∷ [])) pathSize) (65546 ∷ replicate pathSize 0)
+    ∷ case (assemble workedBytes a111 a110 (solution 1 (edge 0 0 0 1 ∷ [])) pathSize) (65546 ∷ replicate pathSize 0)
+    ∷ case (assemble workedBytes a111 a110 (0 ∷ 1 ∷ 1 ∷ replicate 12 0 ++ (1 ∷ [])) pathSize) (65546 ∷ replicate pathSize 0)
+    ∷ case (assemble workedBytes a111 a110 (0 ∷ 1 ∷ 1 ∷ replicate 12 0) pathSize) (65546 ∷ replicate pathSize 0)
+    ∷ case (assemble workedBytes a111 a110 (0 ∷ 1 ∷ 1 ∷ replicate 14 0) pathSize) (65546 ∷ replicate pathSize 0)
+    ∷ case (assemble workedBytes a110 a111 (0 ∷ 1 ∷ 1 ∷ replicate 13 0) pathSize) (65546 ∷ replicate pathSize 0)
     -- document 01: an input under 16 bytes, one with an empty book, and refused books
     ∷ case (print (replicate 15 0)) (Printed.ascii "refused 1\n")
     ∷ case (print (replicate 16 0)) (Printed.ascii "refused 1\n")
@@ -540,8 +536,8 @@ hashed =
 unfoldable pub unhashed : List ℕ → List ℕ
 unhashed m = m
 
-pub all-right : T (every (right unhashed) table && every (right Message.sha256) hashed)
-unfolding table hashed unhashed every right answer flatMap
+pub all-right : T (every (right unhashed) (table ++ PinnedCases.table) && every (right Message.sha256) hashed)
+unfolding table hashed PinnedCases.table unhashed every right answer sketchOf flatMap
     Basics.any Basics.filter Basics.range Basics.sum Basics.sameList Basics.padded
     Octets.be16 Octets.be32 Octets.be64 Octets.octets2 Octets.octets4 Octets.octets8
     Book.cores Book.nonCores Book.bodyTotal Book.segmentCount Book.headOffset Book.timestampAt Book.idAt Book.entryCountAt Book.bodyLengthAt

@@ -1,15 +1,17 @@
 -- How a table of cases is written: books field by field, questions, their answers by the definitions, and the test of a whole table.
 -- Assumes nothing.
-use Prim.Native.Nat.{ℕ, _-_, _*_}
+use Prim.Native.Nat.{ℕ, _+_, _-_, _*_}
 use mathlib.Core.Bool.{Bool, true, _&&_}
-use mathlib.Core.List.{List, [], _∷_, _++_, flatMap}
+use mathlib.Core.List.{List, [], _∷_, _++_, map, flatMap}
 use lib.ListN.{length, replicate}
 use Rattle.spec.specs.declared.IsdAsn.{IsdAsn}
+use Rattle.spec.specs.Limits.{pathSize}
 use Rattle.spec.specs.Basics.{sameList}
 use Rattle.spec.specs.Octets.{octets2, octets4, octets8}
 use Rattle.spec.specs.Book.{verdict}
-use Rattle.spec.specs.Assembly.{life}
-use Rattle.spec.specs.Records.{slots}
+use Rattle.spec.specs.Order.{solutions}
+use Rattle.spec.specs.Assembly.{CombinedPath, combinedPath, life}
+use Rattle.spec.specs.Records.{bit, slots}
 use Rattle.spec.specs.Router.{routerIds}
 use Rattle.spec.specs.Answers.{Listed, Assembled, listing, assembly, verdictNumber, listNumber, pathNumber}
 use Rattle.spec.specs.Printed.{printed}
@@ -68,6 +70,10 @@ pub data Question : Type 0 where
   print : List ℕ → Question
   -- the path of a record, in so many bytes
   assemble : List ℕ → ℕ → ℕ → List ℕ → ℕ → Question
+  -- of every path from a source to a destination, in order: MTU and expiry
+  least : List ℕ → ℕ → ℕ → Question
+  -- of every path: flags, hop count and id of each info, ingress and egress of each hop, all interface ids
+  sketch : List ℕ → ℕ → ℕ → Question
   -- the ids that a router holds at the hops of that path
   hold : List ℕ → ℕ → ℕ → List ℕ → Question
   -- how many solutions fit in so many bytes?
@@ -82,6 +88,12 @@ isdAsn n = record { 0 = n }
 abbrev pub input : List ℕ → ℕ → ℕ → List ℕ
 input b src dst = octets8 src ++ octets8 dst ++ b
 
+unfoldable pub sketchOf : CombinedPath → List ℕ
+sketchOf p =
+    flatMap (λ i. (bit (i .construction) + 2 * bit (i .peering)) ∷ i .hops ∷ i .id ∷ []) (p .infos)
+    ++ flatMap (λ h. h .ingress ∷ h .egress ∷ []) (p .hops)
+    ++ map (λ x. x .id) (p .interfaces)
+
 unfoldable pub answer : (List ℕ → List ℕ) → Question → List ℕ
 answer digest (accept b) = verdictNumber (verdict b) ∷ []
 answer digest (list b src dst bytes) =
@@ -91,7 +103,10 @@ answer digest (print i) = printed digest i
 answer digest (assemble b src dst given bytes) =
     let a : Assembled = assembly b (isdAsn src) (isdAsn dst) given bytes in
     pathNumber (a .0) ∷ a .1
-answer digest (hold b src dst given) = routerIds (assembly b (isdAsn src) (isdAsn dst) given 1538 .1)
+answer digest (least b src dst) =
+    flatMap (λ c. combinedPath b c .mtu ∷ combinedPath b c .expiry ∷ []) (solutions digest b (isdAsn src) (isdAsn dst))
+answer digest (sketch b src dst) = flatMap (λ c. sketchOf (combinedPath b c)) (solutions digest b (isdAsn src) (isdAsn dst))
+answer digest (hold b src dst given) = routerIds (assembly b (isdAsn src) (isdAsn dst) given pathSize .1)
 answer digest (room bytes) = slots bytes ∷ []
 answer digest (live units) = life units ∷ []
 
@@ -122,8 +137,27 @@ a111 = 0x0001_ff00_0000_0111
 abbrev pub a112 : ℕ
 a112 = 0x0001_ff00_0000_0112
 
+abbrev pub a0 : ℕ
+a0 = 0
+
+abbrev pub a113 : ℕ
+a113 = 0x0001_ff00_0000_0113
+
+abbrev pub a114 : ℕ
+a114 = 0x0001_ff00_0000_0114
+
+-- a110's AS number in another ISD
+abbrev pub b110 : ℕ
+b110 = 0x0002_ff00_0000_0110
+
 abbrev pub mac0 : List ℕ
 mac0 = 1 ∷ 2 ∷ 3 ∷ 4 ∷ 5 ∷ 6 ∷ []
 
 abbrev pub mac1 : List ℕ
 mac1 = 10 ∷ 11 ∷ 12 ∷ 13 ∷ 14 ∷ 15 ∷ []
+
+abbrev pub mac2 : List ℕ
+mac2 = 0x20 ∷ 0x31 ∷ 0x42 ∷ 0x53 ∷ 0x64 ∷ 0x75 ∷ []
+
+abbrev pub mac3 : List ℕ
+mac3 = 0x86 ∷ 0x97 ∷ 0xa8 ∷ 0xb9 ∷ 0xca ∷ 0xdb ∷ []

@@ -1,9 +1,9 @@
--- What the two tables say: each question has the answer that stands beside it.
+-- What the tables say: each question has the answer that stands beside it.
 -- Assumes nothing.
 use mathlib.Core.Path.{_≡_, ap, _∙_}
 use mathlib.Core.Logic.{⊎-elim}
 use mathlib.Core.Bool.{Bool, true, _&&_}
-use mathlib.Core.List.{List, [], _∷_, List·Memᴰ as Mem, List·Memᴰ·not-nil as not-nil, List·Memᴰ·cases-cons as cases-cons}
+use mathlib.Core.List.{List, [], _∷_, _++_, List·Memᴰ as Mem, List·Memᴰ·not-nil as not-nil, List·Memᴰ·cases-cons as cases-cons}
 use Prim.Native.Nat.{ℕ}
 use lib.Dec.{T}
 use Rattle.sha256.specs.Message.{sha256}
@@ -11,6 +11,7 @@ use Rattle.spec.proofs.Membership.{T-true, true-T, and-true}
 use Rattle.spec.proofs.AnswerLaws.{sameList-eq}
 use Rattle.spec.proofs.CasesForm.{Case, answer, right, every}
 use Rattle.spec.proofs.Cases
+use Rattle.spec.proofs.PinnedCases
 use Rattle.spec.proofs.AddedCases
 
 every-mem : (p : Case → Bool) (cs : List Case) → T (every p cs) → (c : Case) → Mem c cs → p c ≡ true
@@ -29,15 +30,18 @@ answered digest cs t c m =
 pub p-answer : (digest : List ℕ → List ℕ) (c : Case) → Mem c Cases.table → answer digest (c .question) ≡ c .expected
 p-answer digest = answered digest Cases.table (Cases.all-right digest)
 
--- the second table, and its cases with SHA-256
-both : T (every (right AddedCases.unhashed) AddedCases.table) × T (every (right sha256) AddedCases.hashed)
-both =
-    let h = and-true (every (right AddedCases.unhashed) AddedCases.table) (every (right sha256) AddedCases.hashed)
-    (T-true (every (right AddedCases.unhashed) AddedCases.table && every (right sha256) AddedCases.hashed) AddedCases.all-right) in
-    (true-T (every (right AddedCases.unhashed) AddedCases.table) (h .0), true-T (every (right sha256) AddedCases.hashed) (h .1))
+-- the second and the third table, and the cases with SHA-256
+abbrev added : List Case
+added = AddedCases.table ++ PinnedCases.table
 
-pub added-answer : (c : Case) → Mem c AddedCases.table → answer AddedCases.unhashed (c .question) ≡ c .expected
-added-answer = answered AddedCases.unhashed AddedCases.table (both .0)
+both : T (every (right AddedCases.unhashed) added) × T (every (right sha256) AddedCases.hashed)
+both =
+    let h = and-true (every (right AddedCases.unhashed) added) (every (right sha256) AddedCases.hashed)
+    (T-true (every (right AddedCases.unhashed) added && every (right sha256) AddedCases.hashed) AddedCases.all-right) in
+    (true-T (every (right AddedCases.unhashed) added) (h .0), true-T (every (right sha256) AddedCases.hashed) (h .1))
+
+pub added-answer : (c : Case) → Mem c added → answer AddedCases.unhashed (c .question) ≡ c .expected
+added-answer = answered AddedCases.unhashed added (both .0)
 
 pub hashed-answer : (c : Case) → Mem c AddedCases.hashed → answer sha256 (c .question) ≡ c .expected
 hashed-answer = answered sha256 AddedCases.hashed (both .1)
