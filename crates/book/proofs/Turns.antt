@@ -123,10 +123,6 @@ pub heads-inside : (b : List ℕ) → Sized b → (k : ℕ) → k < segmentCount
 unfolding bodyOffset headOffset
 heads-inside b s k h = let w = s .whole in omega arith
 
-pub pair-read : (b : List ℕ) (at : ℕ) {x y : ℕ} → x ≡ getD b at 0 → y ≡ getD b (at + 1) 0 → x * 2 ^ 8 + y ≡ be16 b at
-unfolding be16
-pair-read b at p q = ap₂ (λ u v. u * 2 ^ 8 + v) p q
-
 pub count-read : (b : List ℕ) (k : ℕ) → be16 b (sizesSize + headSize * k + 6) ≡ entryCountAt b k
 unfolding entryCountAt headOffset
 count-read b k = refl

@@ -18,11 +18,11 @@ use Rattle.spec.specs.Order.{entryInput, fingerprintInput, fingerprint}
 use Rattle.spec.proofs.Lists.{flatMap-append}
 use Rattle.spec.proofs.BookLaws.{AcceptedBook, entry-count}
 use Rattle.spec.proofs.OctetLaws.{be16s-bytes, be64-bytes}
+use Rattle.spec.proofs.BodyLaws.{offset-shift}
 use Rattle.output.specs.Write.{written}
 use Rattle.output.proofs.Writing.{written-pair, written-within, octets2-length, octets8-length}
 use Rattle.sha256.specs.Message.{sha256}
 use Rattle.fingerprint.specs.Print.{inputSize, inputs}
-use Rattle.segment.proofs.Fitting.{offset-next}
 
 -- ---- one entry
 
@@ -35,7 +35,7 @@ input-length x = refl
 entries-more : (b : List ℕ) (at n : ℕ) → entriesAt b at (suc n) ≡ entriesAt b at n ++ entryAt b (entryOffset b at n) ∷ []
 unfolding entriesAt entryOffset
 entries-more b at zero = refl
-entries-more b at (suc n) = ap (λ l. entryAt b at ∷ l) (entries-more b (entryEnd b at) n ∙ ap (λ o. entriesAt b (entryEnd b at) n ++ entryAt b o ∷ []) (offset-next b at n))
+entries-more b at (suc n) = ap (λ l. entryAt b at ∷ l) (entries-more b (entryEnd b at) n ∙ ap (λ o. entriesAt b (entryEnd b at) n ++ entryAt b o ∷ []) (offset-shift b at n))
 
 inputs-more : (b : List ℕ) (at n : ℕ) → inputs b at (suc n) ≡ inputs b at n ++ entryInput (entryAt b (entryOffset b at n))
 unfolding inputs flatMap

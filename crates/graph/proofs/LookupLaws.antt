@@ -17,7 +17,7 @@ use Rattle.spec.specs.declared.Vertex.the-variants.{AS, Peering}
 use Rattle.spec.specs.declared.Edge.{Edge}
 use Rattle.spec.specs.Basics.{if_then_else_, any, filter, range}
 use Rattle.spec.specs.Book.{Segment}
-use Rattle.spec.specs.Edges.{sameAs, sameVertex, asOf, leafAs, peerOf, edgeOf, coreInsertions, asInsertions, peerInsertions, entryInsertions, insertions, sameEnds, lasting, storedOf}
+use Rattle.spec.specs.Edges.{sameAs, sameVertex, asOf, leafAs, peerOf, edgeOf, addCoreSegment, asInsertions, peerInsertions, entryInsertions, insertions, sameEnds, lasting, storedOf}
 use Rattle.spec.specs.Chains.{leaves}
 use Rattle.spec.proofs.Membership.{and-true, true-and, not-both, filter-mem, mem-filter}
 use Rattle.spec.proofs.Lists.{reverse-range}
@@ -298,7 +298,7 @@ module _ (seg : Segment) where
     pub insertions-other : insertions seg ≡ flatMap (entryInsertions seg) (reverse (range 0 (entryCount seg)))
     unfolding insertions entryCount
     insertions-other =
-        ap (λ x. if x then coreInsertions seg else flatMap (entryInsertions seg) (reverse (range 0 (length (seg .entries))))) nc
+        ap (λ x. if x then addCoreSegment seg else flatMap (entryInsertions seg) (reverse (range 0 (length (seg .entries))))) nc
 
     -- edges with ends that only the AS edges of the entries of one AS have
     module _ (v w : Vertex) (a : IsdAsn)
@@ -474,9 +474,9 @@ module _ (seg : Segment) where
 
   module _ (core : seg .core ≡ true) (full : entryCount seg ≡ 0 → ⊥) where
     pub insertions-core : insertions seg ≡ there ∷ back ∷ []
-    unfolding insertions coreInsertions entryCount
+    unfolding insertions addCoreSegment entryCount
     insertions-core =
-        ap (λ x. if x then coreInsertions seg else flatMap (entryInsertions seg) (reverse (range 0 (length (seg .entries))))) core
+        ap (λ x. if x then addCoreSegment seg else flatMap (entryInsertions seg) (reverse (range 0 (length (seg .entries))))) core
         ∙ ap (λ x. if x then [] else there ∷ back ∷ []) (ne-eqb (length (seg .entries)) 0 full)
 
     core-last : (v w : Vertex) → between seg v w ≡ lastBy (hasEnds v w) (there ∷ back ∷ [])
@@ -526,9 +526,9 @@ module _ (seg : Segment) where
   -- ---- a segment with no entries
 
   pub core-none : seg .core ≡ true → entryCount seg ≡ 0 → insertions seg ≡ []
-  unfolding insertions coreInsertions entryCount
+  unfolding insertions addCoreSegment entryCount
   core-none core h =
-      ap (λ x. if x then coreInsertions seg else flatMap (entryInsertions seg) (reverse (range 0 (length (seg .entries))))) core
+      ap (λ x. if x then addCoreSegment seg else flatMap (entryInsertions seg) (reverse (range 0 (length (seg .entries))))) core
       ∙ ap (λ x. if x then [] else there ∷ back ∷ []) (eq-eqb (length (seg .entries)) 0 h)
 
   pub none-stored : entryCount seg ≡ 0 → storedOf seg ≡ []

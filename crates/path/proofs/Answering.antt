@@ -23,7 +23,7 @@ use Rattle.spec.specs.Order.{solutionEdge}
 use Rattle.spec.specs.Assembly.{least, isPeerEdge, atShortcut, isPeerHop, hopCount, usedEntries, hopOf, mtusAt, interfacesAt, stopAt, hopsOf, interfacesOf, mtusOf, infoOf, expiryOf, segmentOf, infoOn, hopsOn, interfacesOn, mtusOn, expiryOn, CombinedPath, combinedPath, outcome}
 use Rattle.spec.specs.Records.{recordEdge, solutionIn, solutionOctets}
 use Rattle.spec.specs.ByRecord.{edgesIn as edgesNamed}
-use Rattle.spec.specs.Answers.{Assembled, assembly, leftBy, pathAnswer, refusedPath}
+use Rattle.spec.specs.Answers.{Assembled, assembly, outputOf, pathAnswer, refusedPath}
 use Rattle.spec.proofs.Lists.{map-same}
 use Rattle.spec.proofs.Membership.{map-mem}
 use Rattle.spec.proofs.BookLaws.{stored}
@@ -107,7 +107,7 @@ same-path b c =
 
 same-answer : (b : List ℕ) (bytes : ℕ) (c : List Edge) → pathAnswer b bytes (map again c) ≡ pathAnswer b bytes c
 unfolding pathAnswer
-same-answer b bytes c = ap (λ (p : CombinedPath). (outcome p, leftBy (outcome p) bytes p)) (same-path b c)
+same-answer b bytes c = ap (λ (p : CombinedPath). (outcome p, outputOf (outcome p) bytes p)) (same-path b c)
 
 -- ---- the edges of a chain's record
 

@@ -20,7 +20,7 @@ use Rattle.spec.specs.Octets.{Bytes, octets2, octets4, octets8}
 use Rattle.spec.specs.Book.{isdAsnAt}
 use Rattle.spec.specs.Assembly.{hopCount, segmentOf, infoOn, hopsOn, interfacesOn, CombinedPath, combinedPath, isLoop, isBare, outcome}
 use Rattle.spec.specs.Records.{infoOctets, hopOctets, asOctets, interfaceAsOctets, interfaceIdOctets, noInterface, pathHead, pathHeadOctets, pathOctets}
-use Rattle.spec.specs.Answers.{leftBy, pathAnswer}
+use Rattle.spec.specs.Answers.{outputOf, pathAnswer}
 use Rattle.spec.proofs.Lists.{flat-map, flat-flat}
 use Rattle.spec.proofs.Membership.{map-mem}
 use Rattle.spec.proofs.ByteLaws.{isdAsnAt-shift, info-length, hop-length, read-all}
@@ -194,9 +194,9 @@ module _ (b : List ℕ) (bytes : Bytes b) (accepted : AcceptedBook b) (c : List 
   told : (t : Bool) → t ≡ someThrice (numbersIn a 0 (ends .ases / 8)) → t ≡ isLoop (p .interfaces)
   told t thrice = thrice ∙ loop-read
 
-  answer : (n : ℕ) (r : PathAnswer) → outcome p ≡ r → (d′ : List ℕ) → d′ ≡ leftBy r n p → (r ≡ pathAnswer b n c .0) × (d′ ≡ pathAnswer b n c .1)
+  answer : (n : ℕ) (r : PathAnswer) → outcome p ≡ r → (d′ : List ℕ) → d′ ≡ outputOf r n p → (r ≡ pathAnswer b n c .0) × (d′ ≡ pathAnswer b n c .1)
   unfolding pathAnswer
-  answer n r q d′ e = (sym q, e ∙ ap (λ x. leftBy x n p) (sym q))
+  answer n r q d′ e = (sym q, e ∙ ap (λ x. outputOf x n p) (sym q))
 
   module _ (d : List ℕ) (n : ℕ) (same : length d ≡ n) (t : Bool) (thrice : t ≡ someThrice (numbersIn a 0 (ends .ases / 8))) where
     zeros : (d′ : List ℕ) → d′ ≡ zeroed d 0 → d′ ≡ replicate n 0

@@ -25,7 +25,7 @@ use Rattle.spec.specs.Order.{cost}
 use Rattle.spec.specs.Assembly.{combinedPath, isLoop, isBare, outcome}
 use Rattle.spec.specs.Records.{solutionOctets, solutionOf, pathHead, pathOctets, pathHeadIn, recordInterface, interfacesIn}
 use Rattle.spec.specs.Router.{recordInfo, infosIn}
-use Rattle.spec.specs.Answers.{Assembled, refusedPath, leftBy, pathAnswer, assembly}
+use Rattle.spec.specs.Answers.{Assembled, refusedPath, outputOf, pathAnswer, assembly}
 use Rattle.spec.specs.Printed.{ascii, decimal, item, newline, infoLine, interfaceLine, pathLines, linesBy, outcomeLines, solutionLines}
 use Rattle.spec.proofs.Lists.{flat-map}
 use Rattle.spec.proofs.Membership.{not-both}
@@ -135,7 +135,7 @@ module _ (b : List ℕ) (bytes : Bytes b) (src dst : IsdAsn) (number : ℕ) wher
         let s = chain-bounds b bytes (accepted b ok) src dst c h in
         ap (λ (x : Solution). decimal number ++ item " cost " (x .cost) ++ item " segments " (x .count)) (solution-back c (s .count) (s .cost))
 
-    chain-text : solutionLines b number c ≡ textBy (outcome (combinedPath b c)) (leftBy (outcome (combinedPath b c)) pathSize (combinedPath b c)) (solutionOctets c) number
+    chain-text : solutionLines b number c ≡ textBy (outcome (combinedPath b c)) (outputOf (outcome (combinedPath b c)) pathSize (combinedPath b c)) (solutionOctets c) number
     unfolding solutionLines outcomeLines outcome
     chain-text = go (isLoop (combinedPath b c .interfaces)) (isBare (combinedPath b c .interfaces))
       where
@@ -143,7 +143,7 @@ module _ (b : List ℕ) (bytes : Bytes b) (src dst : IsdAsn) (number : ℕ) wher
         by l e = if l then Loop else if e then Bare else Path
 
         go : (l e : Bool) → decimal number ++ item " cost " (cost c) ++ item " segments " (length c) ++ linesBy (by l e) (combinedPath b c)
-            ≡ textBy (by l e) (leftBy (by l e) pathSize (combinedPath b c)) (solutionOctets c) number
+            ≡ textBy (by l e) (outputOf (by l e) pathSize (combinedPath b c)) (solutionOctets c) number
         go true e = ap (λ l. l ++ (ascii " loop" ++ newline)) (sym start-text)
         go false true = ap (λ l. l ++ (ascii " bare" ++ newline)) (sym start-text)
         go false false = ap₂ (λ (x : List ℕ) y. x ++ y) (sym start-text) (sym (path-text b c pathSize (path-read b bytes c pathSize)))

@@ -29,12 +29,6 @@ pub offset-step : (b : List ℕ) (start i : ℕ) {at size : ℕ} → at ≡ entr
     → at + size ≡ entryOffset b start (i + 1)
 offset-step b start i {at = at} e q = end-is b at q ∙ ap (entryEnd b) e ∙ sym (offset-more b start i)
 
--- the offsets from the second entry on
-pub offset-next : (b : List ℕ) (at i : ℕ) → entryOffset b (entryEnd b at) i ≡ entryOffset b at (suc i)
-unfolding entryOffset
-offset-next b at zero = refl
-offset-next b at (suc i) = ap (entryEnd b) (offset-next b at i)
-
 -- an entry of an accepted book starts where a u16 reaches
 pub offset-small : (b : List ℕ) (a : AcceptedBook b) (k : ℕ) (h : k < segmentCount b) (i : ℕ) → i < entryCountAt b k
     → entryOffset b (bodyOffset b k) i + entrySize ≤ maxBook

@@ -545,7 +545,7 @@ unfolding table hashed PinnedCases.table unhashed every right answer sketchOf fl
     Book.isLong Book.tooLong Book.verdict Book.isdAsnAt Book.macAt Book.asEntryAt Book.peerEntryAt Book.peerOffset Book.peerOfEntryAt Book.entryAt
     Book.entriesAt Book.segmentAt Book.segments
     Edges.sameAs Edges.sameVertex Edges.noEntry Edges.noPeer Edges.entryOf Edges.asOf Edges.leafAs Edges.peerOf Edges.inConstruction Edges.edgeOf
-    Edges.coreInsertions Edges.asInsertions Edges.peerInsertions Edges.entryInsertions Edges.insertions Edges.sameEnds Edges.lasting
+    Edges.addCoreSegment Edges.asInsertions Edges.peerInsertions Edges.entryInsertions Edges.insertions Edges.sameEnds Edges.lasting
     Edges.sameBool Edges.sameSegment Edges.isEarlier Edges.isFirst Edges.firsts Edges.storedOf Edges.storedEdges
     Chains.allowedKinds Chains.leaves Chains.leaving Chains.beginning Chains.walks Chains.chains
     Order.compareBy Order.weightOf Order.cost Order.entryInput Order.fingerprintInput Order.solutionEdge Order.fingerprint Order.compareEdges
@@ -558,7 +558,7 @@ unfolding table hashed PinnedCases.table unhashed every right answer sketchOf fl
     Records.bit Records.edgeOctets Records.solutionOctets Records.slots Records.infoOctets Records.hopOctets Records.asOctets Records.noInterface
     Records.interfaceAsOctets Records.interfaceIdOctets Records.pathHead Records.pathHeadOctets Records.pathOctets Records.pathHeadIn
     Router.infoAt Router.hopAt Router.recordInfo Router.recordHop Router.infosIn Router.hopsIn Router.isNone Router.against Router.along
-    Router.walkInfo Router.route Router.routerIds
+    Router.walkInfo Router.walkInfos Router.routerIds
     Answers.refusedList Answers.listingOf Answers.listing Answers.refusedPath Answers.pathAnswer Answers.pathOfRecord Answers.assembly
     Printed.ascii Printed.decimalIn Printed.decimal Printed.hex Printed.item Printed.newline Printed.infoLine Printed.interfaceLine
     Printed.pathLines Printed.outcomeLines Printed.solutionLines Printed.solutionsLines Printed.hasPath Printed.refusedLine Printed.listLines

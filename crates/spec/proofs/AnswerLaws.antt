@@ -28,7 +28,7 @@ use Rattle.spec.specs.Records.{edgeOctets, solutionOctets, slots}
 use Rattle.spec.specs.Router.{RouterAgrees}
 use Rattle.spec.specs.declared.PathInterface.{PathInterface}
 use Rattle.spec.specs.declared.ListAnswer.the-variants.{Count}
-use Rattle.spec.specs.Answers.{Listed, Assembled, listing, listingOf, listingOn, assembly, assemblyOn, pathOfRecord, leftBy, pathAnswer, refusedPath, refusedList}
+use Rattle.spec.specs.Answers.{Listed, Assembled, listing, listingOf, listingOn, assembly, assemblyOn, pathOfRecord, outputOf, pathAnswer, refusedPath, refusedList}
 use Rattle.spec.specs.Demand3.{Demand3}
 use Rattle.spec.proofs.Membership.{and-true, true-and, not-both}
 use Rattle.spec.proofs.ChainLaws.{chains-sound, chains-complete}
@@ -161,9 +161,9 @@ module _ (b : List ℕ) (bytes : ℕ) (c : List Edge) where
   unfolding pathAnswer
   first-of = refl
 
-  pub answer-by : (o : PathAnswer) → outcome p ≡ o → pathAnswer b bytes c ≡ (o, leftBy o bytes p)
+  pub answer-by : (o : PathAnswer) → outcome p ≡ o → pathAnswer b bytes c ≡ (o, outputOf o bytes p)
   unfolding pathAnswer
-  answer-by o q = ap (λ x. (x, leftBy x bytes p)) q
+  answer-by o q = ap (λ x. (x, outputOf x bytes p)) q
 
 pub bare-no-loop : (is : List PathInterface) → isBare is ≡ true → isLoop is ≡ false
 unfolding isBare isLoop any

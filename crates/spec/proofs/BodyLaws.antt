@@ -19,7 +19,8 @@ use Rattle.spec.proofs.BookLaws.{AcceptedBook, passed}
 
 -- ---- offsets of entries
 
-offset-shift : (b : List ℕ) (at i : ℕ) → entryOffset b (entryEnd b at) i ≡ entryOffset b at (suc i)
+-- the offsets from the second entry on
+pub offset-shift : (b : List ℕ) (at i : ℕ) → entryOffset b (entryEnd b at) i ≡ entryOffset b at (suc i)
 unfolding entryOffset
 offset-shift b at zero = refl
 offset-shift b at (suc i) = ap (entryEnd b) (offset-shift b at i)

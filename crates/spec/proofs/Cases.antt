@@ -94,7 +94,7 @@ unfolding table every right answer flatMap
     Book.cores Book.nonCores Book.bodyTotal Book.segmentCount Book.headOffset Book.timestampAt Book.idAt Book.entryCountAt Book.bodyLengthAt
     Book.lengthsBelow Book.bodyOffset Book.wholeLength Book.peerCount Book.entryEnd Book.entriesVerdict Book.bodyVerdict Book.bodiesVerdict
     Book.isLong Book.tooLong Book.verdict Book.isdAsnAt Book.macAt Book.asEntryAt Book.peerEntryAt Book.peerOffset Book.peerOfEntryAt Book.entryAt Book.entriesAt Book.segmentAt Book.segments
-    Edges.sameAs Edges.sameVertex Edges.noEntry Edges.noPeer Edges.entryOf Edges.asOf Edges.leafAs Edges.peerOf Edges.edgeOf Edges.coreInsertions
+    Edges.sameAs Edges.sameVertex Edges.noEntry Edges.noPeer Edges.entryOf Edges.asOf Edges.leafAs Edges.peerOf Edges.edgeOf Edges.addCoreSegment
     Edges.asInsertions Edges.peerInsertions Edges.entryInsertions Edges.insertions Edges.sameEnds Edges.lasting Edges.sameBool Edges.sameSegment
     Edges.inConstruction Edges.isEarlier Edges.isFirst Edges.firsts Edges.storedOf Edges.storedEdges
     Chains.allowedKinds Chains.leaves Chains.leaving Chains.beginning Chains.walks Chains.chains

@@ -27,7 +27,7 @@ use Rattle.spec.specs.Chains.{chains}
 use Rattle.spec.specs.Order.{solutionEdge, solutions}
 use Rattle.spec.specs.Assembly.{CombinedPath, combinedPath, outcome}
 use Rattle.spec.specs.Records.{edgeOctets, solutionOctets, pathOctets, slots}
-use Rattle.spec.specs.Answers.{Listed, Assembled, refusedList, listingOf, listingOn, listing, refusedPath, leftBy, pathAnswer, pathOfRecord, assemblyOn, assembly}
+use Rattle.spec.specs.Answers.{Listed, Assembled, refusedList, listingOf, listingOn, listing, refusedPath, outputOf, pathAnswer, pathOfRecord, assemblyOn, assembly}
 use Rattle.spec.specs.Demand1.{Demand1}
 use Rattle.spec.proofs.ChainLaws.{allowed-length, chains-sound}
 use Rattle.spec.proofs.OnceLaws.{solutions-sound}
@@ -112,7 +112,7 @@ module _ (b : List ℕ) (bytes : ℕ) where
   unfolding refusedPath
   refused-clean r = zero-clean (RefusedPath r)
 
-  left-clean : (p : CombinedPath) → length (pathOctets p) ≤ bytes → (o : PathAnswer) → Clean (o, leftBy o bytes p)
+  left-clean : (p : CombinedPath) → length (pathOctets p) ≤ bytes → (o : PathAnswer) → Clean (o, outputOf o bytes p)
   left-clean p h Path = record { size = padded-length bytes (pathOctets p) h; none = λ n. absurd (n refl) }
   left-clean p h Loop = zero-clean Loop
   left-clean p h Bare = zero-clean Bare

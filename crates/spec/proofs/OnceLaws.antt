@@ -16,7 +16,7 @@ use Rattle.spec.specs.declared.Edge.{Edge}
 use Rattle.spec.specs.Limits.{maxEdges}
 use Rattle.spec.specs.Basics.{if_then_else_, any, filter, range, Once}
 use Rattle.spec.specs.Book.{Segment, segmentAt, segments, segmentCount}
-use Rattle.spec.specs.Edges.{sameAs, sameVertex, sameEnds, inConstruction, edgeOf, coreInsertions, asInsertions, peerInsertions, entryInsertions, insertions, lasting, firsts, storedOf, storedEdges, entryOf, asOf, leafAs}
+use Rattle.spec.specs.Edges.{sameAs, sameVertex, sameEnds, inConstruction, edgeOf, addCoreSegment, asInsertions, peerInsertions, entryInsertions, insertions, lasting, firsts, storedOf, storedEdges, entryOf, asOf, leafAs}
 use Rattle.spec.specs.Chains.{allowedKinds, IsChain, leaving, beginning, walks, chains}
 use Rattle.spec.specs.Order.{compareChains, isLt, insert, insertAll, solutions}
 use Rattle.spec.proofs.Membership.{not-both, true-and, filter-mem, map-mem, flatMap-mem, once-filter, once-map, once-flatMap}
@@ -125,8 +125,8 @@ inserted-two seg e f p q m =
     (λ k. ⊎-elim (λ r. subst (Inserted seg) (sym r) q) (λ l. absurd (not-nil l)) (cases-cons k))
     (cases-cons m)
 
-inserted-core : (seg : Segment) {e : Edge} → Mem e (coreInsertions seg) → Inserted seg e
-unfolding coreInsertions
+inserted-core : (seg : Segment) {e : Edge} → Mem e (addCoreSegment seg) → Inserted seg e
+unfolding addCoreSegment
 inserted-core seg {e} m = go (eqb (length (seg .entries)) 0) refl m
   where
     n : ℕ
@@ -190,7 +190,7 @@ pub inserted : (seg : Segment) {e : Edge} → Mem e (insertions seg) → Inserte
 unfolding insertions
 inserted seg {e} m = go (seg .core) m
   where
-    go : (t : Bool) → Mem e (if t then coreInsertions seg else flatMap (entryInsertions seg) (reverse (range 0 (length (seg .entries))))) → Inserted seg e
+    go : (t : Bool) → Mem e (if t then addCoreSegment seg else flatMap (entryInsertions seg) (reverse (range 0 (length (seg .entries))))) → Inserted seg e
     go true k = inserted-core seg k
     go false k =
         let w = flatMap-mem (entryInsertions seg) (reverse (range 0 (length (seg .entries)))) k in

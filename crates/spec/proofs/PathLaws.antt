@@ -18,7 +18,7 @@ use Rattle.spec.specs.Book.{Segment}
 use Rattle.spec.specs.declared.Path.{Path}
 use Rattle.spec.specs.Assembly.{isPeerEdge, inDirection, usedEntries, hopOf, hopCount, hopsOf, infoOf, segmentOf, infoOn, hopsOn, CombinedPath, combinedPath}
 use Rattle.spec.specs.Records.{infoOctets, hopOctets, asOctets, interfaceAsOctets, interfaceIdOctets, pathHead, pathHeadOctets, pathHeadIn, pathOctets}
-use Rattle.spec.specs.Router.{infoAt, hopAt, recordInfo, recordHop, infosIn, hopsIn, walkInfo, route, routerIds, isAlong, InfoShape, shapeOf, shapeOn, entryHopsOn, heldOn, RouterAgrees}
+use Rattle.spec.specs.Router.{infoAt, hopAt, recordInfo, recordHop, infosIn, hopsIn, walkInfo, walkInfos, routerIds, isAlong, InfoShape, shapeOf, shapeOn, entryHopsOn, heldOn, RouterAgrees}
 use Rattle.spec.proofs.Membership.{map-mem, flatMap-mem}
 use Rattle.spec.proofs.Lists.{length-range}
 use Rattle.spec.proofs.RouterLaws.{hops-entries, walk-info}
@@ -51,17 +51,17 @@ module _ (b : List ℕ) where
   unfolding isAlong
   along e st = st .edge .direction
 
-  pub route-chain : (c : List Edge) → ((e : Edge) → Mem e c → Stored b e) → route (map (infoOn b) c) (flatMap (hopsOn b) c) ≡ flatMap (heldOn b) c
-  unfolding route flatMap infoOn hopsOn heldOn
-  route-chain [] st = refl
-  route-chain (e ∷ c) st =
+  pub walk-chain : (c : List Edge) → ((e : Edge) → Mem e c → Stored b e) → walkInfos (map (infoOn b) c) (flatMap (hopsOn b) c) ≡ flatMap (heldOn b) c
+  unfolding walkInfos flatMap infoOn hopsOn heldOn
+  walk-chain [] st = refl
+  walk-chain (e ∷ c) st =
       let seg : Segment = segmentOf b e in
       let hops : List HopField = hopsOf seg e in
       let s : Stored b e = st e (head refl) in
       let n : length hops ≡ infoOf seg e .hops = hops-length seg e ∙ sym (info-hops seg e) in
-      ap₂ (λ x y. walkInfo (infoOf seg e) x ++ route (map (infoOn b) c) y)
+      ap₂ (λ x y. walkInfo (infoOf seg e) x ++ walkInfos (map (infoOn b) c) y)
       (take-at hops (flatMap (hopsOn b) c) (infoOf seg e .hops) n) (drop-at hops (flatMap (hopsOn b) c) (infoOf seg e .hops) n)
-      ∙ ap₂ (λ x y. x ++ y) (walk-info seg e (along e s) (s .edge .shortcut)) (route-chain c (λ f m. st f (tail m)))
+      ∙ ap₂ (λ x y. x ++ y) (walk-info seg e (along e s) (s .edge .shortcut)) (walk-chain c (λ f m. st f (tail m)))
 
 -- ---- the record's bytes
 
@@ -162,5 +162,5 @@ module _ (b : List ℕ) (bytes : Bytes b) (c : List Edge) where
       record {
         infos = ap (map shapeOf) (infos-back path n good-infos) ∙ shapes b c st;
         hops = hops-back path n good-hops ∙ hop-lists b c st;
-        held = ap₂ route (infos-back path n good-infos) (hops-back path n good-hops) ∙ route-chain b c st;
+        held = ap₂ walkInfos (infos-back path n good-infos) (hops-back path n good-hops) ∙ walk-chain b c st;
       }

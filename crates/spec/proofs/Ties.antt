@@ -13,7 +13,7 @@ use Rattle.spec.specs.declared.Vertex.the-variants.{AS, Peering}
 use Rattle.spec.specs.declared.Edge.{Edge}
 use Rattle.spec.specs.Basics.{if_then_else_, range}
 use Rattle.spec.specs.Book.{Segment, segments}
-use Rattle.spec.specs.Edges.{entryOf, asOf, leafAs, peerOf, edgeOf, coreInsertions, asInsertions, peerInsertions, entryInsertions, insertions, firsts, storedOf, storedEdges}
+use Rattle.spec.specs.Edges.{entryOf, asOf, leafAs, peerOf, edgeOf, addCoreSegment, asInsertions, peerInsertions, entryInsertions, insertions, firsts, storedOf, storedEdges}
 use Rattle.spec.specs.Chains.{Leads}
 use Rattle.spec.proofs.Membership.{filter-mem, flatMap-mem}
 use Rattle.spec.proofs.ChainLaws.{Among}
@@ -54,8 +54,8 @@ module _ (seg : Segment) where
   own : (t : Bool) (i q : ℕ) (e : Edge) → e .shortcut ≡ i → e .peer ≡ q → OneOf t i q e → Own t e
   own t i q e a c = subst (λ j. OneOf t j q e → Own t e) a (subst (λ p. OneOf t (e .shortcut) p e → Own t e) c (λ h. h))
 
-  own-core : {e : Edge} → Mem e (coreInsertions seg) → Own true e
-  unfolding coreInsertions edgeOf
+  own-core : {e : Edge} → Mem e (addCoreSegment seg) → Own true e
+  unfolding addCoreSegment edgeOf
   own-core {e} m = go (eqb (length (seg .entries)) 0) m
     where
       go : (t : Bool) → Mem e (if t then [] else there 0 0 true ∷ back 0 0 true ∷ []) → Own true e
@@ -94,7 +94,7 @@ module _ (seg : Segment) where
   unfolding insertions
   own-insertion {e} m = go (seg .core) m
     where
-      go : (t : Bool) → Mem e (if t then coreInsertions seg else flatMap (entryInsertions seg) (reverse (range 0 (length (seg .entries))))) → Own t e
+      go : (t : Bool) → Mem e (if t then addCoreSegment seg else flatMap (entryInsertions seg) (reverse (range 0 (length (seg .entries))))) → Own t e
       go true k = own-core k
       go false k = let w = flatMap-mem (entryInsertions seg) (reverse (range 0 (length (seg .entries)))) k in own-entry (w .0) (w .2)
 

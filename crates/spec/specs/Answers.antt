@@ -90,15 +90,15 @@ unfoldable pub refusedPath : ℕ → Refusal → Assembled
 refusedPath bytes r = (RefusedPath r, replicate bytes 0)
 
 -- 9.7: what an outcome leaves in the output: the path's record; Loop and Bare leave zeros
-abbrev pub leftBy : PathAnswer → ℕ → CombinedPath → List ℕ
-leftBy Path bytes p = padded bytes (pathOctets p)
-leftBy Loop bytes p = replicate bytes 0
-leftBy Bare bytes p = replicate bytes 0
-leftBy (RefusedPath r) bytes p = replicate bytes 0
+abbrev pub outputOf : PathAnswer → ℕ → CombinedPath → List ℕ
+outputOf Path bytes p = padded bytes (pathOctets p)
+outputOf Loop bytes p = replicate bytes 0
+outputOf Bare bytes p = replicate bytes 0
+outputOf (RefusedPath r) bytes p = replicate bytes 0
 
 -- 9.6: the answer to a chain
 unfoldable pub pathAnswer : List ℕ → ℕ → List Edge → Assembled
-pathAnswer b bytes c = (outcome (combinedPath b c), leftBy (outcome (combinedPath b c)) bytes (combinedPath b c))
+pathAnswer b bytes c = (outcome (combinedPath b c), outputOf (outcome (combinedPath b c)) bytes (combinedPath b c))
 
 -- 9.6: the chain that the record is of; a record of no chain is a stranger's
 unfoldable pub pathOfRecord : List ℕ → ℕ → List ℕ → List (List Edge) → Assembled

@@ -71,8 +71,8 @@ edgeOf seg src dst weight shortcut peer =
     }
 
 -- 3.3: first AS to last AS and back
-unfoldable pub coreInsertions : Segment → List Edge
-coreInsertions seg =
+unfoldable pub addCoreSegment : Segment → List Edge
+addCoreSegment seg =
     let n : ℕ = length (seg .entries) in
     let first : Vertex = AS (asOf seg 0) in
     let last : Vertex = AS (leafAs seg) in
@@ -104,10 +104,12 @@ unfoldable pub entryInsertions : Segment → ℕ → List Edge
 entryInsertions seg i = asInsertions seg i ++ flatMap (peerInsertions seg i) (range 0 (length (entryOf seg i .peers)))
 
 -- 3.7: entries from the leaf down
+abbrev pub addNonCoreSegment : Segment → List Edge
+addNonCoreSegment seg = flatMap (entryInsertions seg) (reverse (range 0 (length (seg .entries))))
+
+-- 3.7: by the segment's kind
 unfoldable pub insertions : Segment → List Edge
-insertions seg =
-    if seg .core then coreInsertions seg
-    else flatMap (entryInsertions seg) (reverse (range 0 (length (seg .entries))))
+insertions seg = if seg .core then addCoreSegment seg else addNonCoreSegment seg
 
 -- ---- what stands
 

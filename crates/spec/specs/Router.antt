@@ -71,13 +71,13 @@ unfoldable pub walkInfo : InfoField → List HopField → List ℕ
 walkInfo i hs = if i .construction then along (i .peering) (i .id) hs else against (i .peering) true (i .id) hs
 
 -- 7.4: each info sets the id to its own and takes the next hops, as many as its hop count
-unfoldable pub route : List InfoField → List HopField → List ℕ
-route [] hs = []
-route (i ∷ is) hs = walkInfo i (take (i .hops) hs) ++ route is (drop (i .hops) hs)
+unfoldable pub walkInfos : List InfoField → List HopField → List ℕ
+walkInfos [] hs = []
+walkInfos (i ∷ is) hs = walkInfo i (take (i .hops) hs) ++ walkInfos is (drop (i .hops) hs)
 
 -- 7.1, 7.4: the router is fed the record's bytes, nothing else
 unfoldable pub routerIds : List ℕ → List ℕ
-routerIds r = route (infosIn r) (hopsIn r)
+routerIds r = walkInfos (infosIn r) (hopsIn r)
 
 -- ---- what it is compared with
 

@@ -1,12 +1,12 @@
 -- `pair` meets its contract.
 -- Assumes nothing.
-use Rattle.book.proofs.Turns.{pair-read}
+use Rattle.octets.proofs.Halves.{halves16}
 use borrow.Author.Needs.{needs}
 use Rattle.book.proofs.numbers.pair.Statement.{statement}
 use Rattle.book.proofs.numbers.pair.Tie as tie
 
 returns : tie.Need-returns
-returns c = pair-read _ _ (c .before .before .wide16 .ensures .0) (c .wide162 .ensures .0)
+returns c = halves16 _ _ (c .before .before .wide16 .ensures .0) (c .wide162 .ensures .0)
 
 pub pair-spec : {M : Type 1} → statement M
 pair-spec =
