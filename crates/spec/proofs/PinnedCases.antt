@@ -400,8 +400,12 @@ table =
     ∷ prints wideBook wide2 wide1
     "solutions 1 paths 1\n1 cost 5 segments 2 mtu 45491 expiry 4275947064 hops 6\ninfo 2 c9df 4275878553\ninfo 3 abb9 4275878552\nif a3456789abcdef01 19219\nif a3456789abcdef01 11534\nif 8123456789abcdef 16145\nif 8123456789abcdef 18962\nif 0001ff0000000110 2819\nif 0001ff0000000110 3076\nif 0001ff0000000111 2821\nif 0001ff0000000111 3078\nif 0001ff0000000112 2823\nif 0001ff0000000112 3080\nif 923456789abcdef0 65535\nif 923456789abcdef0 256\n"
     -- peer 0 before 1, 2 and 3, on the first edge, whatever the fingerprint
-    ∷ prints rankedBook a110 a113
-    "solutions 4 paths 4\n1 cost 2 segments 2 mtu 1500 expiry 21601 hops 3\ninfo 2 0106 1\ninfo 3 0107 1\nif 0001ff0000000110 1\nif 0001ff0000000112 11\nif 0001ff0000000113 5\n2 cost 2 segments 2 mtu 1500 expiry 21601 hops 3\ninfo 2 0101 1\ninfo 3 0107 1\nif 0001ff0000000110 2\nif 0001ff0000000112 12\nif 0001ff0000000113 5\n3 cost 2 segments 2 mtu 1500 expiry 21601 hops 3\ninfo 2 0100 1\ninfo 3 0107 1\nif 0001ff0000000110 3\nif 0001ff0000000112 13\nif 0001ff0000000113 5\n4 cost 2 segments 2 mtu 1500 expiry 21601 hops 3\ninfo 2 0103 1\ninfo 3 0107 1\nif 0001ff0000000110 4\nif 0001ff0000000112 14\nif 0001ff0000000113 5\n"
+    ∷ case (list rankedBook a110 a113 64) (4 ∷ (solution 2 (edge 3 0 1 0 ∷ edge 4 2 4 1 ∷ []) ++ solution 2 (edge 2 0 2 0 ∷ edge 4 2 3 1 ∷ []) ++ solution 2 (edge 1 0 3 0 ∷ edge 4 2 2 1 ∷ []) ++ solution 2 (edge 0 0 4 0 ∷ edge 4 2 1 1 ∷ [])))
+    -- the hop of peer 3
+    ∷ case (sketch (others (segment 1 1 (linked a110 0 1 (link a114 1 1 ∷ link a114 2 2 ∷ link a114 3 3 ∷ link a112 14 4 ∷ []) ∷ []) ∷ segment 1 2 (linked a112 0 9 (link a114 5 5 ∷ link a114 6 6 ∷ link a114 7 7 ∷ link a110 4 14 ∷ []) ∷ plain a113 5 0 ∷ []) ∷ []) ∷ []) a110 a113) (2 ∷ 1 ∷ 0x0103 ∷ 3 ∷ 2 ∷ 0x0100 ∷ 4 ∷ 0 ∷ 14 ∷ 0 ∷ 5 ∷ 0 ∷ 4 ∷ 14 ∷ 5 ∷ [])
+    -- more than two solutions. By hand: their order, by positions
+    ∷ prints (others (one ∷ segment 1 2 (plain a110 0 1 ∷ plain a111 2 0 ∷ []) ∷ segment 1 3 (plain a110 0 1 ∷ plain a111 2 0 ∷ []) ∷ [])) a111 a110
+    "solutions 3 paths 3\n1 cost 1 segments 1 mtu 1500 expiry 21601 hops 2\ninfo 0 0103 1\nif 0001ff0000000111 2\nif 0001ff0000000110 1\n2 cost 1 segments 1 mtu 1500 expiry 21601 hops 2\ninfo 0 0100 1\nif 0001ff0000000111 2\nif 0001ff0000000110 1\n3 cost 1 segments 1 mtu 1500 expiry 21601 hops 2\ninfo 0 0101 1\nif 0001ff0000000111 2\nif 0001ff0000000110 1\n"
     -- peers of the third entry, from 0 to 3
     ∷ case (list rankedBook a113 a110 64) (4 ∷ (solution 2 (edge 4 2 1 0 ∷ edge 0 0 4 1 ∷ []) ++ solution 2 (edge 4 2 2 0 ∷ edge 1 0 3 1 ∷ []) ++ solution 2 (edge 4 2 3 0 ∷ edge 2 0 2 1 ∷ []) ++ solution 2 (edge 4 2 4 0 ∷ edge 3 0 1 1 ∷ [])))
     -- a peering end is no other side of the same link
