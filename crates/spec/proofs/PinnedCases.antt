@@ -1,6 +1,7 @@
 -- A third table of computed cases: one rule of document 01 decides each, at a hop, an edge or a byte where the other two leave it open. Every answer
--- is the Rust's but where a comment says `by hand`; `tests/stored/pins.py` holds all to the Rust's stored answers and to `tests/model.py`.
--- The digest hands its input back, as in the second table; the orders are the Rust's, by SHA-256, all the same.
+-- is the Rust's, laid out as document 01 says, but where a comment says `by hand`; `tests/stored/pins.py` holds all to the Rust's stored answers
+-- and to `tests/model.py`. The digest hands its input back, as in the second table; the orders are the Rust's, by SHA-256, all the same. Within ties
+-- positions decide, by document 01: the Rust leaves them open.
 -- Assumes nothing.
 use Prim.Native.Nat.{ℕ, _-_}
 use Prim.Native.String.{String}
@@ -204,7 +205,7 @@ abbrev pub linkedEach : ℕ → List Draft → List (List ℕ)
 linkedEach local segments =
     map (λ s. others (s ∷ segment 1 8 (entry a113 9000 500 0 0 3 mac0 (peer local 22 8400 61 21 24 mac1 ∷ []) ∷ []) ∷ [])) segments
 
--- links to three segments down, of one cost: peer 0 before 1 before a larger shortcut and a smaller fingerprint
+-- a link to two segments down, of one cost: the one with peer 0 has the smaller shortcut and the larger fingerprint
 abbrev pub downBook : List ℕ
 downBook =
     others
@@ -213,7 +214,7 @@ downBook =
     ∷ segment 1 3 (linked a112 0 5 (link a110 1 2 ∷ []) ∷ plain a113 6 0 ∷ [])
     ∷ [])
 
--- four ways up, of one cost, before a core and a way down
+-- four ways up, of one cost: two alike, one with a larger fingerprint, one at a shortcut
 abbrev pub upBook : List ℕ
 upBook =
     book
@@ -226,7 +227,7 @@ upBook =
     ∷ segment 1 6 (plain a111 0 5 ∷ plain a113 6 0 ∷ [])
     ∷ [])
 
--- two cores alike, and before two ways down at shortcuts
+-- two cores alike, and two ways down, one of them at a shortcut
 abbrev pub lastBook : List ℕ
 lastBook =
     book
