@@ -1,9 +1,6 @@
 #!/usr/bin/env python3
 """Holds the tables of computed cases in crates/spec/proofs to the stored answers of the Rust and to tests/model.py (README.md).
 
-    pins.py            every case; says how many were held to what
-    pins.py --show     also the answers of the Rust to each printed case
-
 The tables are read as they stand: `Tables` knows just as much of antt as they are written with. `inputs` has the inputs
 on which the Rust is asked; answers.py stores its answers.
 """
@@ -50,13 +47,14 @@ class Expression:
         names = names or self.names
         if self.ahead() == "λ":
             self.rest.pop()
-            name, start = self.rest.pop()[1].rstrip("."), list(self.rest)
-            self.whole({**names, name: lambda *_: []})      # only to find its end
-            end = len(self.rest)
+            name, body, depth = self.rest.pop()[1].rstrip("."), [], 0
+            while depth or self.ahead() != ")":
+                depth += {"(": 1, ")": -1}.get(self.ahead(), 0)
+                body.append(self.rest.pop())
 
             def function(x):
                 inner = Expression("", names)
-                inner.rest = start[end:]
+                inner.rest = body[::-1]
                 return inner.whole({**names, name: x})
             return function
         left = self.applied(names)
@@ -115,7 +113,7 @@ def question(kind):
 
 # What CasesForm defines by more than a number or a list.
 FORMS = {
-    "[]": [], "replicate": lambda n, x: [x] * n, "length": len, "take": lambda n, xs: xs[:n], "drop": lambda n, xs: xs[n:], "flatMap": lambda f, xs: joined(map(f, xs)), "pathSize": PATH_SIZE,
+    "[]": [], "replicate": lambda n, x: [x] * n, "length": len, "take": lambda n, xs: xs[:n], "drop": lambda n, xs: xs[n:], "map": lambda f, xs: [f(x) for x in xs], "flatMap": lambda f, xs: joined(map(f, xs)), "pathSize": PATH_SIZE,
     "octets2": number(2), "octets4": number(4), "octets8": number(8), "Printed.ascii": lambda t: list(t.encode()), "ascii": lambda t: list(t.encode()),
     "entry": entry, "peer": peer, "segment": lambda timestamp, ident, entries: (timestamp, ident, entries), "book": book,
     "edge": lambda *numbers: list(numbers), "solution": solution, "input": lambda b, src, dst: list(struct.pack(">QQ", src, dst)) + b,
@@ -160,12 +158,12 @@ def tables():
 
 
 def asked(words):
-    """Source, destination and book of a question, or None."""
+    """Source, destination and book of a question; several of some, none of others."""
     if words[0] == "print" and len(words[1]) >= 16:
-        return bytes(words[1])
+        return [bytes(words[1])]
     if words[0] in ("list", "assemble", "least", "sketch", "hold"):
-        return struct.pack(">QQ", words[2], words[3]) + bytes(words[1])
-    return None
+        return [struct.pack(">QQ", words[2], words[3]) + bytes(b) for b in (words[1] if words[0] in ("least", "sketch") else [words[1]])]
+    return []
 
 
 def inputs():
@@ -173,9 +171,9 @@ def inputs():
     found = {}
     for _, _, cases in tables():
         for words, _ in cases:
-            given = asked(words)
-            if given and not model.verdict(given[16:]) and given[:8] != given[8:16]:
-                found[given] = None
+            for given in asked(words):
+                if not model.verdict(given[16:]) and given[:8] != given[8:16]:
+                    found[given] = None
     return list(found)
 
 
@@ -302,7 +300,6 @@ def unhashed(segment):
 
 def modelled_answer(words):
     """The answer to any question, by the model; the exact text of a refusal too."""
-    given = asked(words)
     if words[0] == "accept":
         return [model.verdict(bytes(words[1]))]
     if words[0] == "room":
@@ -311,10 +308,10 @@ def modelled_answer(words):
         return [(words[1] + 1) * 675 // 2]
     if words[0] == "print":
         return list(model.printed(bytes(words[1])).encode())
-    refusal = model.verdict(given[16:])
+    refusal = max(model.verdict(given[16:]) for given in asked(words))
     if refusal:
         return [REFUSALS + refusal] + [0] * words[-1]
-    return by(modelled(given), words)
+    return joined(by(modelled(given), words) for given in asked(words))
 
 
 def main():
@@ -328,13 +325,11 @@ def main():
             if modelled_answer(words) != expected:
                 bad += 1
                 print(f"pins: {name}, {table}, case {k}: the model answers otherwise: {words[0]}")
-            if given in answers:
+            if given and all(g in answers for g in given):
                 told["the Rust"] += 1
-                if by(answers[given], words) != expected:
+                if joined(by(answers[g], words) for g in given) != expected:
                     bad += 1
-                    print(f"pins: {name}, {table}, case {k}: the Rust answers otherwise: {words[0]}\n{printed(answers[given])}")
-                if "--show" in sys.argv:
-                    print(f"{name} {table} {k} {words[0]}\n{printed(answers[given])}")
+                    print(f"pins: {name}, {table}, case {k}: the Rust answers otherwise: {words[0]}\n" + "".join(printed(answers[g]) for g in given))
             else:
                 told["the model alone"] += 1
     missing = [given for given in inputs() if given not in answers]

@@ -70,10 +70,10 @@ pub data Question : Type 0 where
   print : List ℕ → Question
   -- the path of a record, in so many bytes
   assemble : List ℕ → ℕ → ℕ → List ℕ → ℕ → Question
-  -- of every path from a source to a destination, in order: MTU and expiry
-  least : List ℕ → ℕ → ℕ → Question
-  -- of every path: flags, hop count and id of each info, ingress and egress of each hop, all interface ids
-  sketch : List ℕ → ℕ → ℕ → Question
+  -- of every path in one book after the other: MTU and expiry
+  least : List (List ℕ) → ℕ → ℕ → Question
+  -- flags, hop count and id of each info, ingress and egress of each hop, all interface ids
+  sketch : List (List ℕ) → ℕ → ℕ → Question
   -- the ids that a router holds at the hops of that path
   hold : List ℕ → ℕ → ℕ → List ℕ → Question
   -- how many solutions fit in so many bytes?
@@ -103,9 +103,10 @@ answer digest (print i) = printed digest i
 answer digest (assemble b src dst given bytes) =
     let a : Assembled = assembly b (isdAsn src) (isdAsn dst) given bytes in
     pathNumber (a .0) ∷ a .1
-answer digest (least b src dst) =
-    flatMap (λ c. combinedPath b c .mtu ∷ combinedPath b c .expiry ∷ []) (solutions digest b (isdAsn src) (isdAsn dst))
-answer digest (sketch b src dst) = flatMap (λ c. sketchOf (combinedPath b c)) (solutions digest b (isdAsn src) (isdAsn dst))
+answer digest (least books src dst) =
+    flatMap (λ b. flatMap (λ c. combinedPath b c .mtu ∷ combinedPath b c .expiry ∷ []) (solutions digest b (isdAsn src) (isdAsn dst))) books
+answer digest (sketch books src dst) =
+    flatMap (λ b. flatMap (λ c. sketchOf (combinedPath b c)) (solutions digest b (isdAsn src) (isdAsn dst))) books
 answer digest (hold b src dst given) = routerIds (assembly b (isdAsn src) (isdAsn dst) given pathSize .1)
 answer digest (room bytes) = slots bytes ∷ []
 answer digest (live units) = life units ∷ []

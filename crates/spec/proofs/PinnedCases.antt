@@ -1,11 +1,12 @@
 -- A third table of computed cases: one rule of document 01 decides each, at a hop, an edge or a byte where the other two leave it open. Every answer
--- is the Rust's but where a comment says `by hand`; `tests/stored/pins.py` holds all to the Rust's stored answers and to `tests/model.py`.
--- The digest hands its input back, as in the second table; the orders are the Rust's, by SHA-256, all the same.
+-- is the Rust's, laid out as document 01 says, but where a comment says `by hand`; `tests/stored/pins.py` holds all to the Rust's stored answers
+-- and to `tests/model.py`. The digest hands its input back, as in the second table; the orders are the Rust's, by SHA-256, all the same. Within ties
+-- positions decide, by document 01: the Rust leaves them open.
 -- Assumes nothing.
 use Prim.Native.Nat.{ℕ, _-_}
 use Prim.Native.String.{String}
-use mathlib.Core.List.{List, [], _∷_, _++_}
-use lib.ListN.{replicate, take, drop}
+use mathlib.Core.List.{List, [], _∷_, _++_, map}
+use lib.ListN.{replicate, take}
 use Rattle.spec.specs.Limits.{pathSize}
 use Rattle.spec.specs.Printed.{ascii}
 use Rattle.spec.proofs.CasesForm.{entry, peer, Draft, segment, book, edge, solution, list, print, assemble, least, sketch, hold, input, Case, case, a0, a110, a111, a112, a113, a114, b110, mac0, mac1, mac2, mac3}
@@ -167,12 +168,11 @@ under2 = entry a0 7000 600 0 12 5 mac1 [] ∷ under1
 abbrev pub row : List (List ℕ) → List (List ℕ) → List Draft
 row below peers = six below (spot a110 1 2 mac0 peers) (spot a111 3 4 mac1 []) (spot a112 5 6 mac2 [])
 
--- the peer's numbers are the least once: after the six
+-- over a peer of a110, after others: the six, and once the peer's numbers are the least
 abbrev pub peered : List (List ℕ) → List (List ℕ) → List Draft
 peered below before =
     row below (before ++ (peer a113 21 8500 62 22 23 mac3 ∷ []))
     ++ (segment 1 7 (below ++ (spot a110 1 2 mac0 (before ++ (peer a113 21 700 6 22 23 mac3 ∷ [])) 9000 8000 63 ∷ spot a111 3 4 mac1 [] 9000 8000 63 ∷ spot a112 5 6 mac2 [] 9000 8000 63 ∷ []))
-    ∷ segment 1 8 (entry a113 9000 500 0 0 3 mac0 (peer a110 22 8400 61 21 24 mac1 ∷ []) ∷ [])
     ∷ [])
 
 -- leaves with a link, as first and as second peer, at the second entry: the least AS MTU, ingress MTU and units, and the peer's least
@@ -181,7 +181,6 @@ leaves before =
     segment 1 1 (plain a110 1 2 ∷ entry a111 66436 8000 3 4 63 mac1 (before ++ (peer a113 21 8500 62 22 23 mac3 ∷ [])) ∷ [])
     ∷ segment 1 2 (plain a110 1 2 ∷ entry a111 9000 800 3 4 7 mac1 (before ++ (peer a113 21 8500 62 22 23 mac3 ∷ [])) ∷ [])
     ∷ segment 1 3 (plain a110 1 2 ∷ entry a111 9000 8000 3 4 63 mac1 (before ++ (peer a113 21 700 6 22 23 mac3 ∷ [])) ∷ [])
-    ∷ segment 1 8 (entry a113 9000 500 0 0 3 mac0 (peer a111 22 8400 61 21 24 mac1 ∷ []) ∷ [])
     ∷ []
 
 -- the same where the leaf is the only entry
@@ -190,13 +189,23 @@ lone before =
     segment 1 1 (entry a111 66436 8000 3 4 63 mac1 (before ++ (peer a113 21 8500 62 22 23 mac3 ∷ [])) ∷ [])
     ∷ segment 1 2 (entry a111 9000 800 3 4 7 mac1 (before ++ (peer a113 21 8500 62 22 23 mac3 ∷ [])) ∷ [])
     ∷ segment 1 3 (entry a111 9000 8000 3 4 63 mac1 (before ++ (peer a113 21 700 6 22 23 mac3 ∷ [])) ∷ [])
-    ∷ segment 1 8 (entry a113 9000 500 0 0 3 mac0 (peer a111 22 8400 61 21 24 mac1 ∷ []) ∷ [])
     ∷ []
 
 abbrev pub other : List (List ℕ)
 other = link a114 8 8 ∷ []
 
--- links to three segments down, of one cost: peer 0 before 1 before a larger shortcut and a smaller fingerprint
+-- a book for each segment: as a core, as a non-core, and beside the other side of the link of an AS
+abbrev pub coreEach : List Draft → List (List ℕ)
+coreEach segments = map (λ s. book (s ∷ []) []) segments
+
+abbrev pub each : List Draft → List (List ℕ)
+each segments = map (λ s. others (s ∷ [])) segments
+
+abbrev pub linkedEach : ℕ → List Draft → List (List ℕ)
+linkedEach local segments =
+    map (λ s. others (s ∷ segment 1 8 (entry a113 9000 500 0 0 3 mac0 (peer local 22 8400 61 21 24 mac1 ∷ []) ∷ []) ∷ [])) segments
+
+-- a link to two segments down, of one cost: the one with peer 0 has the smaller shortcut and the larger fingerprint
 abbrev pub downBook : List ℕ
 downBook =
     others
@@ -205,7 +214,7 @@ downBook =
     ∷ segment 1 3 (linked a112 0 5 (link a110 1 2 ∷ []) ∷ plain a113 6 0 ∷ [])
     ∷ [])
 
--- four ways up, of one cost, before a core and a way down
+-- four ways up, of one cost: two alike, one with a larger fingerprint, one at a shortcut
 abbrev pub upBook : List ℕ
 upBook =
     book
@@ -218,7 +227,7 @@ upBook =
     ∷ segment 1 6 (plain a111 0 5 ∷ plain a113 6 0 ∷ [])
     ∷ [])
 
--- two cores alike, and before two ways down at shortcuts
+-- two cores alike, and two ways down, one of them at a shortcut
 abbrev pub lastBook : List ℕ
 lastBook =
     book
@@ -392,8 +401,12 @@ table =
     ∷ prints wideBook wide2 wide1
     "solutions 1 paths 1\n1 cost 5 segments 2 mtu 45491 expiry 4275947064 hops 6\ninfo 2 c9df 4275878553\ninfo 3 abb9 4275878552\nif a3456789abcdef01 19219\nif a3456789abcdef01 11534\nif 8123456789abcdef 16145\nif 8123456789abcdef 18962\nif 0001ff0000000110 2819\nif 0001ff0000000110 3076\nif 0001ff0000000111 2821\nif 0001ff0000000111 3078\nif 0001ff0000000112 2823\nif 0001ff0000000112 3080\nif 923456789abcdef0 65535\nif 923456789abcdef0 256\n"
     -- peer 0 before 1, 2 and 3, on the first edge, whatever the fingerprint
-    ∷ prints rankedBook a110 a113
-    "solutions 4 paths 4\n1 cost 2 segments 2 mtu 1500 expiry 21601 hops 3\ninfo 2 0106 1\ninfo 3 0107 1\nif 0001ff0000000110 1\nif 0001ff0000000112 11\nif 0001ff0000000113 5\n2 cost 2 segments 2 mtu 1500 expiry 21601 hops 3\ninfo 2 0101 1\ninfo 3 0107 1\nif 0001ff0000000110 2\nif 0001ff0000000112 12\nif 0001ff0000000113 5\n3 cost 2 segments 2 mtu 1500 expiry 21601 hops 3\ninfo 2 0100 1\ninfo 3 0107 1\nif 0001ff0000000110 3\nif 0001ff0000000112 13\nif 0001ff0000000113 5\n4 cost 2 segments 2 mtu 1500 expiry 21601 hops 3\ninfo 2 0103 1\ninfo 3 0107 1\nif 0001ff0000000110 4\nif 0001ff0000000112 14\nif 0001ff0000000113 5\n"
+    ∷ case (list rankedBook a110 a113 64) (4 ∷ (solution 2 (edge 3 0 1 0 ∷ edge 4 2 4 1 ∷ []) ++ solution 2 (edge 2 0 2 0 ∷ edge 4 2 3 1 ∷ []) ++ solution 2 (edge 1 0 3 0 ∷ edge 4 2 2 1 ∷ []) ++ solution 2 (edge 0 0 4 0 ∷ edge 4 2 1 1 ∷ [])))
+    -- the hop of peer 3
+    ∷ case (sketch (others (segment 1 1 (linked a110 0 1 (link a114 1 1 ∷ link a114 2 2 ∷ link a114 3 3 ∷ link a112 14 4 ∷ []) ∷ []) ∷ segment 1 2 (linked a112 0 9 (link a114 5 5 ∷ link a114 6 6 ∷ link a114 7 7 ∷ link a110 4 14 ∷ []) ∷ plain a113 5 0 ∷ []) ∷ []) ∷ []) a110 a113) (2 ∷ 1 ∷ 0x0103 ∷ 3 ∷ 2 ∷ 0x0100 ∷ 4 ∷ 0 ∷ 14 ∷ 0 ∷ 5 ∷ 0 ∷ 4 ∷ 14 ∷ 5 ∷ [])
+    -- more than two solutions. By hand: their order, by positions
+    ∷ prints (others (one ∷ segment 1 2 (plain a110 0 1 ∷ plain a111 2 0 ∷ []) ∷ segment 1 3 (plain a110 0 1 ∷ plain a111 2 0 ∷ []) ∷ [])) a111 a110
+    "solutions 3 paths 3\n1 cost 1 segments 1 mtu 1500 expiry 21601 hops 2\ninfo 0 0103 1\nif 0001ff0000000111 2\nif 0001ff0000000110 1\n2 cost 1 segments 1 mtu 1500 expiry 21601 hops 2\ninfo 0 0100 1\nif 0001ff0000000111 2\nif 0001ff0000000110 1\n3 cost 1 segments 1 mtu 1500 expiry 21601 hops 2\ninfo 0 0101 1\nif 0001ff0000000111 2\nif 0001ff0000000110 1\n"
     -- peers of the third entry, from 0 to 3
     ∷ case (list rankedBook a113 a110 64) (4 ∷ (solution 2 (edge 4 2 1 0 ∷ edge 0 0 4 1 ∷ []) ++ solution 2 (edge 4 2 2 0 ∷ edge 1 0 3 1 ∷ []) ++ solution 2 (edge 4 2 3 0 ∷ edge 2 0 2 1 ∷ []) ++ solution 2 (edge 4 2 4 0 ∷ edge 3 0 1 1 ∷ [])))
     -- a peering end is no other side of the same link
@@ -426,67 +439,67 @@ table =
     -- shortcut 9
     ∷ case (list (alone (replicate 9 (plain a113 1 1) ++ (plain a110 2 3 ∷ plain a111 4 0 ∷ []))) a111 a110 16) (1 ∷ solution 1 (edge 0 9 0 0 ∷ []))
     -- a core: the least MTU and units at the shortcut, in the middle and at the leaf; hops and interfaces; both ways
-    ∷ case (least (book (row [] []) []) a112 a110) (900 ∷ 21601 ∷ 901 ∷ 21601 ∷ 902 ∷ 21601 ∷ 800 ∷ 2701 ∷ 801 ∷ 3038 ∷ 802 ∷ 3376 ∷ [])
-    ∷ case (least (book (row [] []) []) a110 a112) (900 ∷ 21601 ∷ 901 ∷ 21601 ∷ 902 ∷ 21601 ∷ 800 ∷ 2701 ∷ 801 ∷ 3038 ∷ 802 ∷ 3376 ∷ [])
-    ∷ case (sketch (book (take 1 (row [] [])) []) a112 a110) (0 ∷ 3 ∷ 0x0b08 ∷ 5 ∷ 6 ∷ 3 ∷ 4 ∷ 1 ∷ 2 ∷ 6 ∷ 5 ∷ 4 ∷ 3 ∷ 2 ∷ 1 ∷ [])
-    ∷ case (sketch (book (take 1 (row [] [])) []) a110 a112) (1 ∷ 3 ∷ 0x0001 ∷ 1 ∷ 2 ∷ 3 ∷ 4 ∷ 5 ∷ 6 ∷ 1 ∷ 2 ∷ 3 ∷ 4 ∷ 5 ∷ 6 ∷ [])
+    ∷ case (least (coreEach (row [] [])) a112 a110) (900 ∷ 21601 ∷ 901 ∷ 21601 ∷ 902 ∷ 21601 ∷ 800 ∷ 2701 ∷ 801 ∷ 3038 ∷ 802 ∷ 3376 ∷ [])
+    ∷ case (least (coreEach (row [] [])) a110 a112) (900 ∷ 21601 ∷ 901 ∷ 21601 ∷ 902 ∷ 21601 ∷ 800 ∷ 2701 ∷ 801 ∷ 3038 ∷ 802 ∷ 3376 ∷ [])
+    ∷ case (sketch (coreEach (take 1 (row [] []))) a112 a110) (0 ∷ 3 ∷ 0x0b08 ∷ 5 ∷ 6 ∷ 3 ∷ 4 ∷ 1 ∷ 2 ∷ 6 ∷ 5 ∷ 4 ∷ 3 ∷ 2 ∷ 1 ∷ [])
+    ∷ case (sketch (coreEach (take 1 (row [] []))) a110 a112) (1 ∷ 3 ∷ 0x0001 ∷ 1 ∷ 2 ∷ 3 ∷ 4 ∷ 5 ∷ 6 ∷ 1 ∷ 2 ∷ 3 ∷ 4 ∷ 5 ∷ 6 ∷ [])
     -- a whole segment: the least MTU and units at the shortcut, in the middle and at the leaf; hops and interfaces; both ways
-    ∷ case (least (others (row [] [])) a112 a110) (900 ∷ 21601 ∷ 901 ∷ 21601 ∷ 902 ∷ 21601 ∷ 800 ∷ 2701 ∷ 801 ∷ 3038 ∷ 802 ∷ 3376 ∷ [])
-    ∷ case (least (others (row [] [])) a110 a112) (900 ∷ 21601 ∷ 901 ∷ 21601 ∷ 902 ∷ 21601 ∷ 800 ∷ 2701 ∷ 801 ∷ 3038 ∷ 802 ∷ 3376 ∷ [])
-    ∷ case (sketch (others (take 1 (row [] []))) a112 a110) (0 ∷ 3 ∷ 0x0b08 ∷ 5 ∷ 6 ∷ 3 ∷ 4 ∷ 1 ∷ 2 ∷ 6 ∷ 5 ∷ 4 ∷ 3 ∷ 2 ∷ 1 ∷ [])
-    ∷ case (sketch (others (take 1 (row [] []))) a110 a112) (1 ∷ 3 ∷ 0x0001 ∷ 1 ∷ 2 ∷ 3 ∷ 4 ∷ 5 ∷ 6 ∷ 1 ∷ 2 ∷ 3 ∷ 4 ∷ 5 ∷ 6 ∷ [])
+    ∷ case (least (each (row [] [])) a112 a110) (900 ∷ 21601 ∷ 901 ∷ 21601 ∷ 902 ∷ 21601 ∷ 800 ∷ 2701 ∷ 801 ∷ 3038 ∷ 802 ∷ 3376 ∷ [])
+    ∷ case (least (each (row [] [])) a110 a112) (900 ∷ 21601 ∷ 901 ∷ 21601 ∷ 902 ∷ 21601 ∷ 800 ∷ 2701 ∷ 801 ∷ 3038 ∷ 802 ∷ 3376 ∷ [])
+    ∷ case (sketch (each (take 1 (row [] []))) a112 a110) (0 ∷ 3 ∷ 0x0b08 ∷ 5 ∷ 6 ∷ 3 ∷ 4 ∷ 1 ∷ 2 ∷ 6 ∷ 5 ∷ 4 ∷ 3 ∷ 2 ∷ 1 ∷ [])
+    ∷ case (sketch (each (take 1 (row [] []))) a110 a112) (1 ∷ 3 ∷ 0x0001 ∷ 1 ∷ 2 ∷ 3 ∷ 4 ∷ 5 ∷ 6 ∷ 1 ∷ 2 ∷ 3 ∷ 4 ∷ 5 ∷ 6 ∷ [])
     -- to a shortcut of 1: the least MTU and units at the shortcut, in the middle and at the leaf; hops and interfaces; both ways
-    ∷ case (least (others (row under1 [])) a112 a110) (900 ∷ 21601 ∷ 901 ∷ 21601 ∷ 902 ∷ 21601 ∷ 8000 ∷ 2701 ∷ 801 ∷ 3038 ∷ 802 ∷ 3376 ∷ [])
-    ∷ case (least (others (row under1 [])) a110 a112) (900 ∷ 21601 ∷ 901 ∷ 21601 ∷ 902 ∷ 21601 ∷ 8000 ∷ 2701 ∷ 801 ∷ 3038 ∷ 802 ∷ 3376 ∷ [])
-    ∷ case (sketch (others (take 1 (row under1 []))) a112 a110) (0 ∷ 3 ∷ 0x8d9f ∷ 5 ∷ 6 ∷ 3 ∷ 4 ∷ 1 ∷ 2 ∷ 6 ∷ 5 ∷ 4 ∷ 3 ∷ 2 ∷ [])
-    ∷ case (sketch (others (take 1 (row under1 []))) a110 a112) (1 ∷ 3 ∷ 0x8696 ∷ 1 ∷ 2 ∷ 3 ∷ 4 ∷ 5 ∷ 6 ∷ 2 ∷ 3 ∷ 4 ∷ 5 ∷ 6 ∷ [])
+    ∷ case (least (each (row under1 [])) a112 a110) (900 ∷ 21601 ∷ 901 ∷ 21601 ∷ 902 ∷ 21601 ∷ 8000 ∷ 2701 ∷ 801 ∷ 3038 ∷ 802 ∷ 3376 ∷ [])
+    ∷ case (least (each (row under1 [])) a110 a112) (900 ∷ 21601 ∷ 901 ∷ 21601 ∷ 902 ∷ 21601 ∷ 8000 ∷ 2701 ∷ 801 ∷ 3038 ∷ 802 ∷ 3376 ∷ [])
+    ∷ case (sketch (each (take 1 (row under1 []))) a112 a110) (0 ∷ 3 ∷ 0x8d9f ∷ 5 ∷ 6 ∷ 3 ∷ 4 ∷ 1 ∷ 2 ∷ 6 ∷ 5 ∷ 4 ∷ 3 ∷ 2 ∷ [])
+    ∷ case (sketch (each (take 1 (row under1 []))) a110 a112) (1 ∷ 3 ∷ 0x8696 ∷ 1 ∷ 2 ∷ 3 ∷ 4 ∷ 5 ∷ 6 ∷ 2 ∷ 3 ∷ 4 ∷ 5 ∷ 6 ∷ [])
     -- to a shortcut of 2: the least MTU and units at the shortcut, in the middle and at the leaf; hops and interfaces; both ways
-    ∷ case (least (others (row under2 [])) a112 a110) (900 ∷ 21601 ∷ 901 ∷ 21601 ∷ 902 ∷ 21601 ∷ 8000 ∷ 2701 ∷ 801 ∷ 3038 ∷ 802 ∷ 3376 ∷ [])
-    ∷ case (least (others (row under2 [])) a110 a112) (900 ∷ 21601 ∷ 901 ∷ 21601 ∷ 902 ∷ 21601 ∷ 8000 ∷ 2701 ∷ 801 ∷ 3038 ∷ 802 ∷ 3376 ∷ [])
-    ∷ case (sketch (others (take 1 (row under2 []))) a112 a110) (0 ∷ 3 ∷ 0x8794 ∷ 5 ∷ 6 ∷ 3 ∷ 4 ∷ 1 ∷ 2 ∷ 6 ∷ 5 ∷ 4 ∷ 3 ∷ 2 ∷ [])
-    ∷ case (sketch (others (take 1 (row under2 []))) a110 a112) (1 ∷ 3 ∷ 0x8c9d ∷ 1 ∷ 2 ∷ 3 ∷ 4 ∷ 5 ∷ 6 ∷ 2 ∷ 3 ∷ 4 ∷ 5 ∷ 6 ∷ [])
+    ∷ case (least (each (row under2 [])) a112 a110) (900 ∷ 21601 ∷ 901 ∷ 21601 ∷ 902 ∷ 21601 ∷ 8000 ∷ 2701 ∷ 801 ∷ 3038 ∷ 802 ∷ 3376 ∷ [])
+    ∷ case (least (each (row under2 [])) a110 a112) (900 ∷ 21601 ∷ 901 ∷ 21601 ∷ 902 ∷ 21601 ∷ 8000 ∷ 2701 ∷ 801 ∷ 3038 ∷ 802 ∷ 3376 ∷ [])
+    ∷ case (sketch (each (take 1 (row under2 []))) a112 a110) (0 ∷ 3 ∷ 0x8794 ∷ 5 ∷ 6 ∷ 3 ∷ 4 ∷ 1 ∷ 2 ∷ 6 ∷ 5 ∷ 4 ∷ 3 ∷ 2 ∷ [])
+    ∷ case (sketch (each (take 1 (row under2 []))) a110 a112) (1 ∷ 3 ∷ 0x8c9d ∷ 1 ∷ 2 ∷ 3 ∷ 4 ∷ 5 ∷ 6 ∷ 2 ∷ 3 ∷ 4 ∷ 5 ∷ 6 ∷ [])
     -- over a peer of the first entry: the same, and the peer's own MTU and units
-    ∷ case (least (others (peered [] [])) a112 a113) (900 ∷ 20926 ∷ 901 ∷ 20926 ∷ 902 ∷ 20926 ∷ 8000 ∷ 20926 ∷ 801 ∷ 3038 ∷ 802 ∷ 3376 ∷ 700 ∷ 2363 ∷ [])
-    ∷ case (least (others (peered [] [])) a113 a112) (900 ∷ 20926 ∷ 901 ∷ 20926 ∷ 902 ∷ 20926 ∷ 8000 ∷ 20926 ∷ 801 ∷ 3038 ∷ 802 ∷ 3376 ∷ 700 ∷ 2363 ∷ [])
-    ∷ case (sketch (others (take 1 (peered [] []) ++ drop 7 (peered [] []))) a112 a113) (2 ∷ 3 ∷ 0x0b08 ∷ 3 ∷ 1 ∷ 0x010a ∷ 5 ∷ 6 ∷ 3 ∷ 4 ∷ 22 ∷ 23 ∷ 21 ∷ 24 ∷ 6 ∷ 5 ∷ 4 ∷ 3 ∷ 23 ∷ 22 ∷ 21 ∷ 24 ∷ [])
-    ∷ case (sketch (others (take 1 (peered [] []) ++ drop 7 (peered [] []))) a113 a112) (2 ∷ 1 ∷ 0x010a ∷ 3 ∷ 3 ∷ 0x0103 ∷ 21 ∷ 24 ∷ 22 ∷ 23 ∷ 3 ∷ 4 ∷ 5 ∷ 6 ∷ 24 ∷ 21 ∷ 22 ∷ 23 ∷ 3 ∷ 4 ∷ 5 ∷ 6 ∷ [])
+    ∷ case (least (linkedEach a110 (peered [] [])) a112 a113) (900 ∷ 20926 ∷ 901 ∷ 20926 ∷ 902 ∷ 20926 ∷ 8000 ∷ 20926 ∷ 801 ∷ 3038 ∷ 802 ∷ 3376 ∷ 700 ∷ 2363 ∷ [])
+    ∷ case (least (linkedEach a110 (peered [] [])) a113 a112) (900 ∷ 20926 ∷ 901 ∷ 20926 ∷ 902 ∷ 20926 ∷ 8000 ∷ 20926 ∷ 801 ∷ 3038 ∷ 802 ∷ 3376 ∷ 700 ∷ 2363 ∷ [])
+    ∷ case (sketch (linkedEach a110 (take 1 (peered [] []))) a112 a113) (2 ∷ 3 ∷ 0x0b08 ∷ 3 ∷ 1 ∷ 0x010a ∷ 5 ∷ 6 ∷ 3 ∷ 4 ∷ 22 ∷ 23 ∷ 21 ∷ 24 ∷ 6 ∷ 5 ∷ 4 ∷ 3 ∷ 23 ∷ 22 ∷ 21 ∷ 24 ∷ [])
+    ∷ case (sketch (linkedEach a110 (take 1 (peered [] []))) a113 a112) (2 ∷ 1 ∷ 0x010a ∷ 3 ∷ 3 ∷ 0x0103 ∷ 21 ∷ 24 ∷ 22 ∷ 23 ∷ 3 ∷ 4 ∷ 5 ∷ 6 ∷ 24 ∷ 21 ∷ 22 ∷ 23 ∷ 3 ∷ 4 ∷ 5 ∷ 6 ∷ [])
     -- over a second peer of the first entry: the same, and the peer's own MTU and units
-    ∷ case (least (others (peered [] other)) a112 a113) (900 ∷ 20926 ∷ 901 ∷ 20926 ∷ 902 ∷ 20926 ∷ 8000 ∷ 20926 ∷ 801 ∷ 3038 ∷ 802 ∷ 3376 ∷ 700 ∷ 2363 ∷ [])
-    ∷ case (least (others (peered [] other)) a113 a112) (900 ∷ 20926 ∷ 901 ∷ 20926 ∷ 902 ∷ 20926 ∷ 8000 ∷ 20926 ∷ 801 ∷ 3038 ∷ 802 ∷ 3376 ∷ 700 ∷ 2363 ∷ [])
-    ∷ case (sketch (others (take 1 (peered [] other) ++ drop 7 (peered [] other))) a112 a113) (2 ∷ 3 ∷ 0x0b08 ∷ 3 ∷ 1 ∷ 0x010a ∷ 5 ∷ 6 ∷ 3 ∷ 4 ∷ 22 ∷ 23 ∷ 21 ∷ 24 ∷ 6 ∷ 5 ∷ 4 ∷ 3 ∷ 23 ∷ 22 ∷ 21 ∷ 24 ∷ [])
-    ∷ case (sketch (others (take 1 (peered [] other) ++ drop 7 (peered [] other))) a113 a112) (2 ∷ 1 ∷ 0x010a ∷ 3 ∷ 3 ∷ 0x0103 ∷ 21 ∷ 24 ∷ 22 ∷ 23 ∷ 3 ∷ 4 ∷ 5 ∷ 6 ∷ 24 ∷ 21 ∷ 22 ∷ 23 ∷ 3 ∷ 4 ∷ 5 ∷ 6 ∷ [])
+    ∷ case (least (linkedEach a110 (peered [] other)) a112 a113) (900 ∷ 20926 ∷ 901 ∷ 20926 ∷ 902 ∷ 20926 ∷ 8000 ∷ 20926 ∷ 801 ∷ 3038 ∷ 802 ∷ 3376 ∷ 700 ∷ 2363 ∷ [])
+    ∷ case (least (linkedEach a110 (peered [] other)) a113 a112) (900 ∷ 20926 ∷ 901 ∷ 20926 ∷ 902 ∷ 20926 ∷ 8000 ∷ 20926 ∷ 801 ∷ 3038 ∷ 802 ∷ 3376 ∷ 700 ∷ 2363 ∷ [])
+    ∷ case (sketch (linkedEach a110 (take 1 (peered [] other))) a112 a113) (2 ∷ 3 ∷ 0x0b08 ∷ 3 ∷ 1 ∷ 0x010a ∷ 5 ∷ 6 ∷ 3 ∷ 4 ∷ 22 ∷ 23 ∷ 21 ∷ 24 ∷ 6 ∷ 5 ∷ 4 ∷ 3 ∷ 23 ∷ 22 ∷ 21 ∷ 24 ∷ [])
+    ∷ case (sketch (linkedEach a110 (take 1 (peered [] other))) a113 a112) (2 ∷ 1 ∷ 0x010a ∷ 3 ∷ 3 ∷ 0x0103 ∷ 21 ∷ 24 ∷ 22 ∷ 23 ∷ 3 ∷ 4 ∷ 5 ∷ 6 ∷ 24 ∷ 21 ∷ 22 ∷ 23 ∷ 3 ∷ 4 ∷ 5 ∷ 6 ∷ [])
     -- over a peer at a shortcut: the same, and the peer's own MTU and units
-    ∷ case (least (others (peered under1 [])) a112 a113) (900 ∷ 20926 ∷ 901 ∷ 20926 ∷ 902 ∷ 20926 ∷ 8000 ∷ 20926 ∷ 801 ∷ 3038 ∷ 802 ∷ 3376 ∷ 700 ∷ 2363 ∷ [])
-    ∷ case (least (others (peered under1 [])) a113 a112) (900 ∷ 20926 ∷ 901 ∷ 20926 ∷ 902 ∷ 20926 ∷ 8000 ∷ 20926 ∷ 801 ∷ 3038 ∷ 802 ∷ 3376 ∷ 700 ∷ 2363 ∷ [])
-    ∷ case (sketch (others (take 1 (peered under1 []) ++ drop 7 (peered under1 []))) a112 a113) (2 ∷ 3 ∷ 0x8d9f ∷ 3 ∷ 1 ∷ 0x010a ∷ 5 ∷ 6 ∷ 3 ∷ 4 ∷ 22 ∷ 23 ∷ 21 ∷ 24 ∷ 6 ∷ 5 ∷ 4 ∷ 3 ∷ 23 ∷ 22 ∷ 21 ∷ 24 ∷ [])
-    ∷ case (sketch (others (take 1 (peered under1 []) ++ drop 7 (peered under1 []))) a113 a112) (2 ∷ 1 ∷ 0x010a ∷ 3 ∷ 3 ∷ 0x8794 ∷ 21 ∷ 24 ∷ 22 ∷ 23 ∷ 3 ∷ 4 ∷ 5 ∷ 6 ∷ 24 ∷ 21 ∷ 22 ∷ 23 ∷ 3 ∷ 4 ∷ 5 ∷ 6 ∷ [])
+    ∷ case (least (linkedEach a110 (peered under1 [])) a112 a113) (900 ∷ 20926 ∷ 901 ∷ 20926 ∷ 902 ∷ 20926 ∷ 8000 ∷ 20926 ∷ 801 ∷ 3038 ∷ 802 ∷ 3376 ∷ 700 ∷ 2363 ∷ [])
+    ∷ case (least (linkedEach a110 (peered under1 [])) a113 a112) (900 ∷ 20926 ∷ 901 ∷ 20926 ∷ 902 ∷ 20926 ∷ 8000 ∷ 20926 ∷ 801 ∷ 3038 ∷ 802 ∷ 3376 ∷ 700 ∷ 2363 ∷ [])
+    ∷ case (sketch (linkedEach a110 (take 1 (peered under1 []))) a112 a113) (2 ∷ 3 ∷ 0x8d9f ∷ 3 ∷ 1 ∷ 0x010a ∷ 5 ∷ 6 ∷ 3 ∷ 4 ∷ 22 ∷ 23 ∷ 21 ∷ 24 ∷ 6 ∷ 5 ∷ 4 ∷ 3 ∷ 23 ∷ 22 ∷ 21 ∷ 24 ∷ [])
+    ∷ case (sketch (linkedEach a110 (take 1 (peered under1 []))) a113 a112) (2 ∷ 1 ∷ 0x010a ∷ 3 ∷ 3 ∷ 0x8794 ∷ 21 ∷ 24 ∷ 22 ∷ 23 ∷ 3 ∷ 4 ∷ 5 ∷ 6 ∷ 24 ∷ 21 ∷ 22 ∷ 23 ∷ 3 ∷ 4 ∷ 5 ∷ 6 ∷ [])
     -- over a second peer at a shortcut: the same, and the peer's own MTU and units
-    ∷ case (least (others (peered under1 other)) a112 a113) (900 ∷ 20926 ∷ 901 ∷ 20926 ∷ 902 ∷ 20926 ∷ 8000 ∷ 20926 ∷ 801 ∷ 3038 ∷ 802 ∷ 3376 ∷ 700 ∷ 2363 ∷ [])
-    ∷ case (least (others (peered under1 other)) a113 a112) (900 ∷ 20926 ∷ 901 ∷ 20926 ∷ 902 ∷ 20926 ∷ 8000 ∷ 20926 ∷ 801 ∷ 3038 ∷ 802 ∷ 3376 ∷ 700 ∷ 2363 ∷ [])
-    ∷ case (sketch (others (take 1 (peered under1 other) ++ drop 7 (peered under1 other))) a112 a113) (2 ∷ 3 ∷ 0x8d9f ∷ 3 ∷ 1 ∷ 0x010a ∷ 5 ∷ 6 ∷ 3 ∷ 4 ∷ 22 ∷ 23 ∷ 21 ∷ 24 ∷ 6 ∷ 5 ∷ 4 ∷ 3 ∷ 23 ∷ 22 ∷ 21 ∷ 24 ∷ [])
-    ∷ case (sketch (others (take 1 (peered under1 other) ++ drop 7 (peered under1 other))) a113 a112) (2 ∷ 1 ∷ 0x010a ∷ 3 ∷ 3 ∷ 0x8794 ∷ 21 ∷ 24 ∷ 22 ∷ 23 ∷ 3 ∷ 4 ∷ 5 ∷ 6 ∷ 24 ∷ 21 ∷ 22 ∷ 23 ∷ 3 ∷ 4 ∷ 5 ∷ 6 ∷ [])
+    ∷ case (least (linkedEach a110 (peered under1 other)) a112 a113) (900 ∷ 20926 ∷ 901 ∷ 20926 ∷ 902 ∷ 20926 ∷ 8000 ∷ 20926 ∷ 801 ∷ 3038 ∷ 802 ∷ 3376 ∷ 700 ∷ 2363 ∷ [])
+    ∷ case (least (linkedEach a110 (peered under1 other)) a113 a112) (900 ∷ 20926 ∷ 901 ∷ 20926 ∷ 902 ∷ 20926 ∷ 8000 ∷ 20926 ∷ 801 ∷ 3038 ∷ 802 ∷ 3376 ∷ 700 ∷ 2363 ∷ [])
+    ∷ case (sketch (linkedEach a110 (take 1 (peered under1 other))) a112 a113) (2 ∷ 3 ∷ 0x8d9f ∷ 3 ∷ 1 ∷ 0x010a ∷ 5 ∷ 6 ∷ 3 ∷ 4 ∷ 22 ∷ 23 ∷ 21 ∷ 24 ∷ 6 ∷ 5 ∷ 4 ∷ 3 ∷ 23 ∷ 22 ∷ 21 ∷ 24 ∷ [])
+    ∷ case (sketch (linkedEach a110 (take 1 (peered under1 other))) a113 a112) (2 ∷ 1 ∷ 0x010a ∷ 3 ∷ 3 ∷ 0x8794 ∷ 21 ∷ 24 ∷ 22 ∷ 23 ∷ 3 ∷ 4 ∷ 5 ∷ 6 ∷ 24 ∷ 21 ∷ 22 ∷ 23 ∷ 3 ∷ 4 ∷ 5 ∷ 6 ∷ [])
     -- over a peer of a leaf
-    ∷ case (least (others (leaves [])) a111 a113) (900 ∷ 20926 ∷ 8400 ∷ 20926 ∷ 700 ∷ 2363 ∷ [])
-    ∷ case (least (others (leaves [])) a113 a111) (900 ∷ 20926 ∷ 8400 ∷ 20926 ∷ 700 ∷ 2363 ∷ [])
-    ∷ case (sketch (others (take 1 (leaves []) ++ drop 3 (leaves []))) a111 a113) (2 ∷ 1 ∷ 0x0b08 ∷ 3 ∷ 1 ∷ 0x010a ∷ 22 ∷ 23 ∷ 21 ∷ 24 ∷ 23 ∷ 22 ∷ 21 ∷ 24 ∷ [])
-    ∷ case (sketch (others (take 1 (leaves []) ++ drop 3 (leaves []))) a113 a111) (2 ∷ 1 ∷ 0x010a ∷ 3 ∷ 1 ∷ 0x0b08 ∷ 21 ∷ 24 ∷ 22 ∷ 23 ∷ 24 ∷ 21 ∷ 22 ∷ 23 ∷ [])
+    ∷ case (least (linkedEach a111 (leaves [])) a111 a113) (900 ∷ 20926 ∷ 8400 ∷ 20926 ∷ 700 ∷ 2363 ∷ [])
+    ∷ case (least (linkedEach a111 (leaves [])) a113 a111) (900 ∷ 20926 ∷ 8400 ∷ 20926 ∷ 700 ∷ 2363 ∷ [])
+    ∷ case (sketch (linkedEach a111 (take 1 (leaves []))) a111 a113) (2 ∷ 1 ∷ 0x0b08 ∷ 3 ∷ 1 ∷ 0x010a ∷ 22 ∷ 23 ∷ 21 ∷ 24 ∷ 23 ∷ 22 ∷ 21 ∷ 24 ∷ [])
+    ∷ case (sketch (linkedEach a111 (take 1 (leaves []))) a113 a111) (2 ∷ 1 ∷ 0x010a ∷ 3 ∷ 1 ∷ 0x0b08 ∷ 21 ∷ 24 ∷ 22 ∷ 23 ∷ 24 ∷ 21 ∷ 22 ∷ 23 ∷ [])
     -- over a second peer of a leaf
-    ∷ case (least (others (leaves other)) a111 a113) (900 ∷ 20926 ∷ 8400 ∷ 20926 ∷ 700 ∷ 2363 ∷ [])
-    ∷ case (least (others (leaves other)) a113 a111) (900 ∷ 20926 ∷ 8400 ∷ 20926 ∷ 700 ∷ 2363 ∷ [])
-    ∷ case (sketch (others (take 1 (leaves other) ++ drop 3 (leaves other))) a111 a113) (2 ∷ 1 ∷ 0x0b08 ∷ 3 ∷ 1 ∷ 0x010a ∷ 22 ∷ 23 ∷ 21 ∷ 24 ∷ 23 ∷ 22 ∷ 21 ∷ 24 ∷ [])
-    ∷ case (sketch (others (take 1 (leaves other) ++ drop 3 (leaves other))) a113 a111) (2 ∷ 1 ∷ 0x010a ∷ 3 ∷ 1 ∷ 0x0b08 ∷ 21 ∷ 24 ∷ 22 ∷ 23 ∷ 24 ∷ 21 ∷ 22 ∷ 23 ∷ [])
+    ∷ case (least (linkedEach a111 (leaves other)) a111 a113) (900 ∷ 20926 ∷ 8400 ∷ 20926 ∷ 700 ∷ 2363 ∷ [])
+    ∷ case (least (linkedEach a111 (leaves other)) a113 a111) (900 ∷ 20926 ∷ 8400 ∷ 20926 ∷ 700 ∷ 2363 ∷ [])
+    ∷ case (sketch (linkedEach a111 (take 1 (leaves other))) a111 a113) (2 ∷ 1 ∷ 0x0b08 ∷ 3 ∷ 1 ∷ 0x010a ∷ 22 ∷ 23 ∷ 21 ∷ 24 ∷ 23 ∷ 22 ∷ 21 ∷ 24 ∷ [])
+    ∷ case (sketch (linkedEach a111 (take 1 (leaves other))) a113 a111) (2 ∷ 1 ∷ 0x010a ∷ 3 ∷ 1 ∷ 0x0b08 ∷ 21 ∷ 24 ∷ 22 ∷ 23 ∷ 24 ∷ 21 ∷ 22 ∷ 23 ∷ [])
     -- over a peer of a leaf that is alone
-    ∷ case (least (others (lone [])) a111 a113) (900 ∷ 20926 ∷ 8400 ∷ 20926 ∷ 700 ∷ 2363 ∷ [])
-    ∷ case (least (others (lone [])) a113 a111) (900 ∷ 20926 ∷ 8400 ∷ 20926 ∷ 700 ∷ 2363 ∷ [])
-    ∷ case (sketch (others (take 1 (lone []) ++ drop 3 (lone []))) a111 a113) (2 ∷ 1 ∷ 0x0a0a ∷ 3 ∷ 1 ∷ 0x010a ∷ 22 ∷ 23 ∷ 21 ∷ 24 ∷ 23 ∷ 22 ∷ 21 ∷ 24 ∷ [])
-    ∷ case (sketch (others (take 1 (lone []) ++ drop 3 (lone []))) a113 a111) (2 ∷ 1 ∷ 0x010a ∷ 3 ∷ 1 ∷ 0x0a0a ∷ 21 ∷ 24 ∷ 22 ∷ 23 ∷ 24 ∷ 21 ∷ 22 ∷ 23 ∷ [])
+    ∷ case (least (linkedEach a111 (lone [])) a111 a113) (900 ∷ 20926 ∷ 8400 ∷ 20926 ∷ 700 ∷ 2363 ∷ [])
+    ∷ case (least (linkedEach a111 (lone [])) a113 a111) (900 ∷ 20926 ∷ 8400 ∷ 20926 ∷ 700 ∷ 2363 ∷ [])
+    ∷ case (sketch (linkedEach a111 (take 1 (lone []))) a111 a113) (2 ∷ 1 ∷ 0x0a0a ∷ 3 ∷ 1 ∷ 0x010a ∷ 22 ∷ 23 ∷ 21 ∷ 24 ∷ 23 ∷ 22 ∷ 21 ∷ 24 ∷ [])
+    ∷ case (sketch (linkedEach a111 (take 1 (lone []))) a113 a111) (2 ∷ 1 ∷ 0x010a ∷ 3 ∷ 1 ∷ 0x0a0a ∷ 21 ∷ 24 ∷ 22 ∷ 23 ∷ 24 ∷ 21 ∷ 22 ∷ 23 ∷ [])
     -- over a second peer of a leaf that is alone
-    ∷ case (least (others (lone other)) a111 a113) (900 ∷ 20926 ∷ 8400 ∷ 20926 ∷ 700 ∷ 2363 ∷ [])
-    ∷ case (least (others (lone other)) a113 a111) (900 ∷ 20926 ∷ 8400 ∷ 20926 ∷ 700 ∷ 2363 ∷ [])
-    ∷ case (sketch (others (take 1 (lone other) ++ drop 3 (lone other))) a111 a113) (2 ∷ 1 ∷ 0x0a0a ∷ 3 ∷ 1 ∷ 0x010a ∷ 22 ∷ 23 ∷ 21 ∷ 24 ∷ 23 ∷ 22 ∷ 21 ∷ 24 ∷ [])
-    ∷ case (sketch (others (take 1 (lone other) ++ drop 3 (lone other))) a113 a111) (2 ∷ 1 ∷ 0x010a ∷ 3 ∷ 1 ∷ 0x0a0a ∷ 21 ∷ 24 ∷ 22 ∷ 23 ∷ 24 ∷ 21 ∷ 22 ∷ 23 ∷ [])
+    ∷ case (least (linkedEach a111 (lone other)) a111 a113) (900 ∷ 20926 ∷ 8400 ∷ 20926 ∷ 700 ∷ 2363 ∷ [])
+    ∷ case (least (linkedEach a111 (lone other)) a113 a111) (900 ∷ 20926 ∷ 8400 ∷ 20926 ∷ 700 ∷ 2363 ∷ [])
+    ∷ case (sketch (linkedEach a111 (take 1 (lone other))) a111 a113) (2 ∷ 1 ∷ 0x0a0a ∷ 3 ∷ 1 ∷ 0x010a ∷ 22 ∷ 23 ∷ 21 ∷ 24 ∷ 23 ∷ 22 ∷ 21 ∷ 24 ∷ [])
+    ∷ case (sketch (linkedEach a111 (take 1 (lone other))) a113 a111) (2 ∷ 1 ∷ 0x010a ∷ 3 ∷ 1 ∷ 0x0a0a ∷ 21 ∷ 24 ∷ 22 ∷ 23 ∷ 24 ∷ 21 ∷ 22 ∷ 23 ∷ [])
     -- the MTU of the first of three edges
-    ∷ case (least (book (segment 1 1 (plain a110 0 1 ∷ plain a111 2 0 ∷ []) ∷ []) (segment 1 2 (plain a110 0 3 ∷ plain a112 4 0 ∷ []) ∷ segment 1 3 (entry a111 1300 0 0 5 63 mac0 [] ∷ plain a113 6 0 ∷ []) ∷ [])) a113 a112) (1300 ∷ 21601 ∷ [])
+    ∷ case (least (book (one ∷ []) (segment 1 2 (plain a110 0 3 ∷ plain a112 4 0 ∷ []) ∷ segment 1 3 (entry a111 1300 0 0 5 63 mac0 [] ∷ plain a113 6 0 ∷ []) ∷ []) ∷ []) a113 a112) (1300 ∷ 21601 ∷ [])
     -- on the second edge the peer before shortcut and fingerprint
     ∷ case (list downBook a110 a113 32) (2 ∷ (solution 2 (edge 0 0 1 0 ∷ edge 2 0 1 1 ∷ []) ++ solution 2 (edge 0 0 1 0 ∷ edge 1 1 2 1 ∷ [])))
     -- three edges: on the first the shortcut, the fingerprint, the position

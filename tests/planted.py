@@ -1,0 +1,132 @@
+#!/usr/bin/env python3
+"""Wrong definitions made by rule, in the form of planted.edits, on standard output: for `plant FILE`.
+
+Every rule of a hop at every place of the hop, in both directions, on every kind of edge; every part of an info so; every part of a path on
+every edge of a chain; every key of the order on every edge of a chain. Left out are places that no chain has.
+"""
+PLACES = {
+    "the leaf": "eqb (i + 1) (length (seg .entries)) && not (atShortcut e i)",
+    "the leaf that is the shortcut": "eqb (i + 1) (length (seg .entries)) && atShortcut e i",
+    "a middle hop": "not (atShortcut e i) && ltb (i + 1) (length (seg .entries))",
+    "the shortcut": "atShortcut e i && ltb (i + 1) (length (seg .entries))",
+}
+DIRECTIONS = {"in construction direction": "e .construction", "against construction": "not (e .construction)"}
+KINDS = {
+    "of a core": "e .core",
+    "of a whole segment": "not (e .core) && eqb (e .peer) 0 && eqb (e .shortcut) 0",
+    "at a shortcut of 1": "eqb (e .peer) 0 && eqb (e .shortcut) 1",
+    "at a shortcut above 1": "eqb (e .peer) 0 && ltb 1 (e .shortcut)",
+    "of a peer edge at 0": "eqb (e .peer) 1 && eqb (e .shortcut) 0",
+    "of a peer edge above 0": "eqb (e .peer) 1 && ltb 0 (e .shortcut)",
+    "of a second peer at 0": "ltb 1 (e .peer) && eqb (e .shortcut) 0",
+    "of a second peer above 0": "ltb 1 (e .peer) && ltb 0 (e .shortcut)",
+}
+EGRESS = "interfaceIf (not (eqb (hop .egress) 0)) (asOf seg i) (hop .egress)"
+INGRESS = "interfaceIf (not (eqb (hop .ingress) 0) && (not (atShortcut e i) || eqb (e .shortcut) 0 || isPeerHop e i)) (asOf seg i) (hop .ingress)"
+AS_MTU = "      ++ (entryOf seg i .own .mtu % 2 ^ 16 ∷ [])"
+PEER_MTU = "(if isPeerHop e i then peerOf seg i (e .peer - 1) .mtu ∷ []"
+UNITS = "life (least 255 (map unitsOf hopsOf))"
+HOP = "  hopOf i = if isPeerHop e i then"
+REGULAR, AT_PEER, AT_SHORTCUT = "regular", "at a peer hop", "at a shortcut"
+# What is wrong: where it can be, the text, and what stands in its place, with HERE for the condition.
+RULES = {
+    "no AS MTU": (None, AS_MTU, "      ++ (if HERE then [] else entryOf seg i .own .mtu % 2 ^ 16 ∷ [])"),
+    "an AS MTU of more than 16 bits":
+        (None, AS_MTU, "      ++ ((if HERE then entryOf seg i .own .mtu else entryOf seg i .own .mtu % 2 ^ 16) ∷ [])"),
+    "no ingress MTU": (REGULAR, "      else if eqb ingressMtu 0 || (atShortcut", "      else if eqb ingressMtu 0 || (HERE) || (atShortcut"),
+    "an ingress MTU that should not count": (AT_SHORTCUT, "else if eqb ingressMtu 0 || (atShortcut e i && ltb 0 (e .shortcut)) then []",
+                                             "else if eqb ingressMtu 0 || (atShortcut e i && ltb 0 (e .shortcut) && not (HERE)) then []"),
+    "no peer MTU": (AT_PEER, PEER_MTU, "(if isPeerHop e i then (if HERE then [] else peerOf seg i (e .peer - 1) .mtu ∷ [])"),
+    "the ingress MTU beside the peer MTU":
+        (AT_PEER, PEER_MTU, PEER_MTU[:-2] + "(if HERE && not (eqb ingressMtu 0) then ingressMtu ∷ [] else [])"),
+    "no egress": (None, "interfaceIf (not (eqb (hop .egress) 0)) (asOf", "interfaceIf (not (eqb (hop .egress) 0) && not (HERE)) (asOf"),
+    "no ingress": ("shown", "interfaceIf (not (eqb (hop .ingress) 0) && (", "interfaceIf (not (eqb (hop .ingress) 0) && not (HERE) && ("),
+    "an ingress that should not be shown":
+        (AT_SHORTCUT, "|| eqb (e .shortcut) 0 || isPeerHop e i)", "|| eqb (e .shortcut) 0 || isPeerHop e i || (HERE))"),
+    "egress after ingress": ("shown", f"      {EGRESS}\\n      ++ {INGRESS}", f"      (if HERE then {INGRESS} ++ {EGRESS} else {EGRESS} ++ {INGRESS})"),
+    "no units": (None, UNITS, "life (least 255 (map (λ i. if HERE then 255 else unitsOf (hopOf seg e i)) (usedEntries seg e)))"),
+    "the units of the entry":
+        (AT_PEER, UNITS, "life (least 255 (map (λ i. if HERE then entryOf seg i .own .hop .units else unitsOf (hopOf seg e i)) (usedEntries seg e)))"),
+    "the hop of the next entry":
+        (None, HOP, "  hopOf i = if HERE then entryOf seg (if eqb (length (seg .entries)) 1 then 1 else if eqb i 0 then 1 else i - 1) .own .hop "
+                    "else if isPeerHop e i then"),
+    "the hop of the entry": (AT_PEER, HOP, "  hopOf i = if isPeerHop e i && not (HERE) then"),
+}
+STOP = "if isPeerEdge e && eqb (e .shortcut) k then k + 1 else k"
+# Of a whole edge.
+PARTS = {
+    "an id of one MAC more": (STOP, f"({STOP}) + (if HERE then 1 else 0)"),
+    "an id of one MAC less": (STOP, f"({STOP}) - (if HERE then 1 else 0)"),
+    "the other construction flag": ("construction = e .construction;", "construction = if HERE then not (e .construction) else e .construction;"),
+    "the other peering flag": ("peering = isPeerEdge e;", "peering = if HERE then not (isPeerEdge e) else isPeerEdge e;"),
+    "hops the other way":
+        ("hopsOf = inDirection (e .construction) (", "hopsOf = inDirection (if HERE then not (e .construction) else e .construction) ("),
+    "interfaces the other way":
+        ("interfacesOf = inDirection (e .construction) (", "interfacesOf = inDirection (if HERE then not (e .construction) else e .construction) ("),
+    "a hop count of one less": ("hops = hopCount seg e;", "hops = if HERE then hopCount seg e - 1 else hopCount seg e;"),
+}
+KEYS = {
+    "peer": ("compare (x .peer) (y .peer)", "compare (y .peer) (x .peer)"),
+    "shortcut": ("compare (y .shortcut) (x .shortcut)", "compare (x .shortcut) (y .shortcut)"),
+    "fingerprint": ("compareBy compare (fingerprint (x .position)) (fingerprint (y .position))",
+                    "compareBy compare (fingerprint (y .position)) (fingerprint (x .position))"),
+}
+
+
+def possible(where, place, kind):
+    peer, at = "peer" in kind, place in ("the shortcut", "the leaf that is the shortcut")
+    hidden = kind.startswith("at a shortcut") and place == "the shortcut"
+    if place == "the leaf that is the shortcut" and not peer:
+        return False
+    return {None: True, AT_PEER: peer and at, AT_SHORTCUT: hidden, "shown": not hidden, REGULAR: not hidden and not (peer and at)}[where]
+
+
+def plant(said, *changes):
+    print(f"# {said}")
+    for old, new in changes:
+        print(f"old: {old}\nnew: {new}")
+
+
+def main():
+    print("file: specs/Assembly.antt")
+    for wrong, (where, old, new) in RULES.items():
+        for place, here in PLACES.items():
+            for direction, way in DIRECTIONS.items():
+                for kind, of in KINDS.items():
+                    if possible(where, place, kind):
+                        plant(f"{wrong} at {place}, {direction}, {kind}", (old, new.replace("HERE", f"{here} && {way} && {of}")))
+    for wrong, (old, new) in PARTS.items():
+        for direction, way in DIRECTIONS.items():
+            for kind, of in KINDS.items():
+                plant(f"{wrong}, {direction}, {kind}", (old, new.replace("HERE", f"{way} && {of}")))
+    lists = ("use lib.ListN.{length, take}", "use lib.ListN.{length, take, drop}")
+    for count in (2, 3):
+        for at in range(count):
+            one = f"edge {at + 1} of {count}"
+            without = f"(if eqb (length c) {count} then (take {at} c ++ drop {at + 1} c) else c)"
+            twice = f"(if eqb (length c) {count} then take {at} c ++ take 1 (drop {(at + 1) % count} c) ++ drop {at + 1} c else c)"
+            plant(f"no MTU of {one}", ("least maxMtu (flatMap mtusOn c)", f"least maxMtu (flatMap mtusOn {without})"), lists)
+            plant(f"no expiry of {one}", ("least maxTime (map expiryOn c)", f"least maxTime (map expiryOn {without})"), lists)
+            for field, of in (("infos", "map infoOn"), ("hops", "flatMap hopsOn"), ("interfaces", "flatMap interfacesOn")):
+                plant(f"{field} of {one} are another edge's", (f"{field} = {of} c;", f"{field} = {of} {twice};"), lists)
+    print("file: specs/Order.antt")
+    lists = ("use lib.ListN.{length}", "use lib.ListN.{length, take, drop}\\nuse lib.Dec.{eqb}")
+    for count in (1, 2, 3):
+        for at in range(count):
+            def on(compare, before, swapped=False):
+                xs, ys = ("fs", "es") if swapped else ("es", "fs")
+                return (f"thenBy (if eqb (length es) {count} then compareBy {before} (take {at} es) (take {at} fs) "
+                        f"thenBy compareBy {compare} (take 1 (drop {at} {xs})) (take 1 (drop {at} {ys})) "
+                        f"thenBy compareBy {before} (drop {at + 1} es) (drop {at + 1} fs) else compareBy {before} es fs)")
+
+            one, old = f"edge {at + 1} of {count}", "thenBy compareBy compareEdges es fs"
+            for key, (right, wrong) in KEYS.items():
+                others = [r for k, (r, _) in KEYS.items() if k != key]
+                orders = {"lost": others, "reversed": [wrong if k == key else r for k, (r, _) in KEYS.items()], "before the other keys": [right] + others}
+                for how, keys in orders.items():
+                    if key != "peer" or how != "before the other keys":
+                        plant(f"{key} {how} on {one}", (old, on(f"(λ x y. {' thenBy '.join(keys)})", "compareEdges")), lists)
+            plant(f"positions reversed on {one}", ("thenBy compareBy comparePositions es fs", on("comparePositions", "comparePositions", True)), lists)
+
+
+main()
