@@ -27,7 +27,7 @@ use spec::Solution;
 use spec::Verdict;
 
 // The chain that a record is of: a refused book has none, a stranger's record is of none, and of a chain the
-// number of its edges, which are those that the record names.
+// number of its edges, which are those that the record names. `specs/Recorded.antt` has its numbers.
 pub enum Chain {
     Refused(Refusal),
     Stranger,
