@@ -1,9 +1,9 @@
 -- The record of a whole path, and the answer.
 -- Assumes nothing.
-use Prim.Native.Nat.{ℕ, _+_, _-_, _*_, _/_, _^_, _≤_, _<_}
+use Prim.Native.Nat.{ℕ, _+_, _-_, _*_, _/_, _≤_, _<_}
 use native.Mathlib.Nat.{zero-add}
 use native.Mathlib.Omega.{arith}
-use mathlib.Core.Path.{_≡_, refl, sym, ap, ap₂, _∙_, subst}
+use mathlib.Core.Path.{_≡_, refl, sym, ap, ap₂, _∙_}
 use mathlib.Core.Bool.{Bool, true, false}
 use mathlib.Core.List.{List, [], _∷_, _++_, map, flatMap, map-map, append-assoc}
 use lib.ListN.{length, getD, take, drop, replicate, length-append, length-map, length-take, length-drop, take-append-drop, List·getD-map}
@@ -22,12 +22,11 @@ use Rattle.spec.specs.Assembly.{hopCount, segmentOf, infoOn, hopsOn, interfaces
 use Rattle.spec.specs.Records.{infoOctets, hopOctets, asOctets, interfaceAsOctets, interfaceIdOctets, noInterface, pathHead, pathHeadOctets, pathOctets}
 use Rattle.spec.specs.Answers.{outputOf, pathAnswer}
 use Rattle.spec.proofs.Lists.{flat-map, flat-flat}
-use Rattle.spec.proofs.Membership.{map-mem}
-use Rattle.spec.proofs.ByteLaws.{isdAsnAt-shift, info-length, hop-length, read-all}
+use Rattle.spec.proofs.ByteLaws.{info-length, hop-length}
 use Rattle.spec.proofs.BookLaws.{AcceptedBook}
-use Rattle.spec.proofs.PathLaws.{hops-length, head-length, good-hops}
-use Rattle.spec.proofs.Bounds.{flat-most, flat-exact, interfaces-most}
-use Rattle.spec.proofs.ReadBack.{as-back, as-length, ases-flat, good-interfaces}
+use Rattle.spec.proofs.PathLaws.{head-length, good-hops}
+use Rattle.spec.proofs.Bounds.{flat-exact, path-hops, path-interfaces}
+use Rattle.spec.proofs.ReadBack.{ases-read, good-interfaces}
 use Rattle.segment.proofs.Fitting.{map-range-at}
 use Rattle.output.specs.Write.{written, zeroed}
 use Rattle.output.proofs.Writing.{written-next, zeroed-rest, zeroed-all}
@@ -63,13 +62,9 @@ module _ (b : List ℕ) (c : List Edge) where
 -- ---- how long they are
 
 module _ (b : List ℕ) (a : AcceptedBook b) (e : Edge) (u : InBook b e) where
-  hops-few : length (hopsOn b e) ≤ maxEntries
-  unfolding hopsOn hopCount
-  hops-few = omega (arith, hops-length (segmentOf b e) e, count-most b a e u)
-
-  interfaces-few : length (interfacesOn b e) ≤ maxEntries * 2
-  unfolding interfacesOn hopCount
-  interfaces-few = omega (arith, interfaces-most (segmentOf b e) e, count-most b a e u)
+  hops-few : hopCount (segmentOf b e) e ≤ maxEntries
+  unfolding hopCount
+  hops-few = omega (arith, count-most b a e u)
 
 pub record Lengths (b : List ℕ) (c : List Edge) : Type 0 where
   pub infos : length (flatMap (infoBytes b) c) ≡ infoSize * length c
@@ -89,8 +84,8 @@ module _ (b : List ℕ) (bytes : Bytes b) where
         ases = ap length (ases-of b c) ∙ omega (arith, flat-exact interfaceAsOctets 8 (p .interfaces) (λ i m. unfold interfaceAsOctets asOctets octets8 octets4 octets2 in refl));
         ids = ap length (ids-of b c) ∙ omega (arith, flat-exact interfaceIdOctets 2 (p .interfaces) (λ i m. unfold interfaceIdOctets octets2 in refl));
         few-infos = u .few;
-        few-hops = omega (arith, all-hops, u .few);
-        few-interfaces = omega (arith, all-interfaces, u .few);
+        few-hops = path-hops b c (u .few) (λ e m. hops-few b a e (u .edges e m));
+        few-interfaces = path-interfaces b c (u .few) (λ e m. hops-few b a e (u .edges e m));
       }
     where
       p : CombinedPath
@@ -98,12 +93,6 @@ module _ (b : List ℕ) (bytes : Bytes b) where
 
       infos-length : length (p .infos) ≡ length c
       infos-length = unfold combinedPath in length-map c (infoOn b)
-
-      all-hops : length (p .hops) ≤ length c * maxEntries
-      all-hops = unfold combinedPath in flat-most (hopsOn b) maxEntries c (λ e m. hops-few b a e (u .edges e m))
-
-      all-interfaces : length (p .interfaces) ≤ length c * (maxEntries * 2)
-      all-interfaces = unfold combinedPath in flat-most (interfacesOn b) (maxEntries * 2) c (λ e m. interfaces-few b a e (u .edges e m))
 
 -- ---- interfaces read from the record
 
@@ -142,20 +131,16 @@ module _ (b : List ℕ) (bytes : Bytes b) (accepted : AcceptedBook b) (c : List 
         ids = f .ids-end ∙ s .ids;
       }
 
-  ases-stand : a ≡ [] ++ (flatMap asOctets (map localOf (p .interfaces)) ++ drop (ends .ases) a)
-  ases-stand = sym (take-append-drop (ends .ases) a) ∙ ap (λ l. l ++ drop (ends .ases) a) (f .ases ∙ ases-of b c ∙ ases-flat (p .interfaces))
+  ases-stand : a ≡ [] ++ (flatMap interfaceAsOctets (p .interfaces) ++ drop (ends .ases) a)
+  ases-stand = sym (take-append-drop (ends .ases) a) ∙ ap (λ l. l ++ drop (ends .ases) a) (f .ases ∙ ases-of b c)
 
-  ases-read : map (λ k. isdAsnAt a (0 + 8 * k)) (range 0 (length (p .interfaces))) ≡ map localOf (p .interfaces)
-  ases-read =
-      ap (λ n. map (λ k. isdAsnAt a (0 + 8 * k)) (range 0 n)) (sym (length-map (p .interfaces) localOf))
-      ∙ read-all isdAsnAt asOctets (λ x. x .0 < 2 ^ 64) 8 isdAsnAt-shift as-back as-length a 0 (map localOf (p .interfaces))
-      (λ x m. let w = map-mem localOf (p .interfaces) m in subst (λ (y : IsdAsn). y .0 < 2 ^ 64) (sym (w .2)) (good-interfaces b bytes c (w .0) (w .1) .local))
-      0 [] (drop (ends .ases) a) (omega arith) ases-stand
+  ases-are : map (λ k. isdAsnAt a (0 + 8 * k)) (range 0 (length (p .interfaces))) ≡ map localOf (p .interfaces)
+  ases-are = ases-read (p .interfaces) (good-interfaces b bytes c) a [] (drop (ends .ases) a) 0 refl ases-stand
 
   as-read : (k : ℕ) → k < length (p .interfaces) → isdAsnAt a (0 + 8 * k) ≡ getD (p .interfaces) k noInterface .local
   as-read k h =
       sym (map-range-at (λ i. isdAsnAt a (0 + 8 * i)) 0 (length (p .interfaces)) k (noInterface .local) h ∙ ap (λ i. isdAsnAt a (0 + 8 * i)) (zero-add k))
-      ∙ ap (λ l. getD l k (noInterface .local)) ases-read ∙ List·getD-map localOf (p .interfaces) k noInterface
+      ∙ ap (λ l. getD l k (noInterface .local)) ases-are ∙ List·getD-map localOf (p .interfaces) k noInterface
 
   loop-read : someThrice (numbersIn a 0 (ends .ases / 8)) ≡ isLoop (p .interfaces)
   loop-read = ap someThrice (ap (numbersIn a 0) (interfaces-count .0) ∙ numbers) ∙ sym (loop-thrice (p .interfaces))
@@ -163,7 +148,7 @@ module _ (b : List ℕ) (bytes : Bytes b) (accepted : AcceptedBook b) (c : List 
       numbers : numbersIn a 0 (length (p .interfaces)) ≡ map numberOf (p .interfaces)
       numbers =
           unfold numbersIn numberAt isdAsnAt in
-          (sym (map-map number (λ k. isdAsnAt a (0 + 8 * k)) (range 0 (length (p .interfaces)))) ∙ ap (map number) ases-read ∙ map-map number localOf (p .interfaces))
+          (sym (map-map number (λ k. isdAsnAt a (0 + 8 * k)) (range 0 (length (p .interfaces)))) ∙ ap (map number) ases-are ∙ map-map number localOf (p .interfaces))
 
   -- ---- the head
 
@@ -191,9 +176,6 @@ module _ (b : List ℕ) (bytes : Bytes b) (accepted : AcceptedBook b) (c : List 
 
   -- ---- the answer
 
-  told : (t : Bool) → t ≡ someThrice (numbersIn a 0 (ends .ases / 8)) → t ≡ isLoop (p .interfaces)
-  told t thrice = thrice ∙ loop-read
-
   answer : (n : ℕ) (r : PathAnswer) → outcome p ≡ r → (d′ : List ℕ) → d′ ≡ outputOf r n p → (r ≡ pathAnswer b n c .0) × (d′ ≡ pathAnswer b n c .1)
   unfolding pathAnswer
   answer n r q d′ e = (sym q, e ∙ ap (λ x. outputOf x n p) (sym q))
@@ -211,7 +193,7 @@ module _ (b : List ℕ) (bytes : Bytes b) (accepted : AcceptedBook b) (c : List 
     answer-loop q d′ e = answer n Loop loops d′ (zeros d′ e)
       where
         loops : outcome p ≡ Loop
-        loops = unfold outcome in (ap (λ (s : Bool). if s then Loop else if isBare (p .interfaces) then Bare else Path) (sym (told t thrice) ∙ q))
+        loops = unfold outcome in (ap (λ (s : Bool). if s then Loop else if isBare (p .interfaces) then Bare else Path) (sym (thrice ∙ loop-read) ∙ q))
 
     pub answer-bare : t ≡ false → ends .ases / 8 ≡ 0 → (d′ : List ℕ) → d′ ≡ zeroed d 0
         → (Bare ≡ pathAnswer b n c .0) × (d′ ≡ pathAnswer b n c .1)
@@ -220,7 +202,7 @@ module _ (b : List ℕ) (bytes : Bytes b) (accepted : AcceptedBook b) (c : List 
         bare : outcome p ≡ Bare
         bare =
             unfold outcome in
-            (ap₂ (λ (s v : Bool). if s then Loop else if v then Bare else Path) (sym (told t thrice) ∙ q)
+            (ap₂ (λ (s v : Bool). if s then Loop else if v then Bare else Path) (sym (thrice ∙ loop-read) ∙ q)
             (bare-is (p .interfaces) (sym (interfaces-count .0) ∙ none)))
 
   pub answer-path : (t : Bool) → t ≡ someThrice (numbersIn a 0 (ends .ases / 8)) → t ≡ false → (ends .ases / 8 ≡ 0 → ⊥)
@@ -235,7 +217,7 @@ module _ (b : List ℕ) (bytes : Bytes b) (accepted : AcceptedBook b) (c : List 
       path : outcome p ≡ Path
       path =
           unfold outcome in
-          (ap₂ (λ (s v : Bool). if s then Loop else if v then Bare else Path) (sym (told t thrice) ∙ q)
+          (ap₂ (λ (s v : Bool). if s then Loop else if v then Bare else Path) (sym (thrice ∙ loop-read) ∙ q)
           (full-is (p .interfaces) (λ z. some (interfaces-count .0 ∙ z))))
 
 -- ---- the whole

@@ -26,7 +26,7 @@ use spec::PathInterface;
 use spec::Solution;
 use spec::SolutionEdge;
 
-// Edge x of a record, read with no test of its end.
+// Edge x of a record. `records::edge` reads the same with a test of the record's end, which costs 3 % of an assembly.
 fn edge_in(given: &[u8], x: usize) -> SolutionEdge
     requires { ⌜ solutionHeadSize + edgeSize * x + edgeSize ≤ length (now given) ⌝ }
     ensures { λ r. ⌜ r ≡ recordEdge (now (given .entry)) x ⌝ }

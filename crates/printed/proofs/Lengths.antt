@@ -21,14 +21,14 @@ use Rattle.spec.specs.Octets.{Bytes}
 use Rattle.spec.specs.Book.{verdict}
 use Rattle.spec.specs.Chains.{IsChain, chains}
 use Rattle.spec.specs.Order.{cost}
-use Rattle.spec.specs.Assembly.{segmentOf, infoOn, hopsOn, interfacesOn, CombinedPath, combinedPath, outcome}
+use Rattle.spec.specs.Assembly.{hopCount, segmentOf, infoOn, CombinedPath, combinedPath, outcome}
 use Rattle.spec.specs.Records.{bit, solutionOctets}
 use Rattle.spec.specs.Printed.{ascii, decimal, hex, item, newline, infoLine, interfaceLine, pathLines, linesBy, outcomeLines, solutionLines}
 use Rattle.spec.proofs.ChainLaws.{chains-sound, chains-complete}
 use Rattle.spec.proofs.ByteLaws.{GoodInfo}
 use Rattle.spec.proofs.BookLaws.{accepted}
-use Rattle.spec.proofs.PathLaws.{hops-length, good-infos}
-use Rattle.spec.proofs.Bounds.{ChainBounds, flat-most, interfaces-most, chain-bounds}
+use Rattle.spec.proofs.PathLaws.{good-infos}
+use Rattle.spec.proofs.Bounds.{ChainBounds, flat-most, path-hops, path-interfaces, chain-bounds}
 use Rattle.spec.proofs.ReadBack.{GoodInterface, good-interfaces, mtu-lt, expiry-lt}
 use Rattle.spec.proofs.PrintedLaws.{decimal-length, hex-length}
 use Rattle.printed.specs.Pieces.{infoLineSize, interfaceLineSize, solutionTextSize, solutionText}
@@ -86,25 +86,17 @@ module _ (b : List ℕ) (bytes : Bytes b) (src dst : IsdAsn) (ok : verdict b ≡
   bounds : ChainBounds b c
   bounds = chain-bounds b bytes (accepted b ok) src dst c h
 
-  hops-few : length (combinedPath b c .hops) ≤ maxEdges * maxEntries
-  unfolding combinedPath hopsOn
-  hops-few =
-      let s = bounds in
-      omega (arith, s .count, flat-most (hopsOn b) maxEntries c (λ e m. omega (arith, hops-length (segmentOf b e) e, s .edges e m .hops)))
-
-  interfaces-few : length (combinedPath b c .interfaces) ≤ maxEdges * maxEntries * 2
-  unfolding combinedPath interfacesOn
-  interfaces-few =
-      let s = bounds in
-      omega (arith, s .count, flat-most (interfacesOn b) (maxEntries * 2) c (λ e m. omega (arith, interfaces-most (segmentOf b e) e, s .edges e m .hops)))
-
   infos-few : length (combinedPath b c .infos) ≤ maxEdges
   unfolding combinedPath
   infos-few = let s = bounds in omega (arith, s .count, length-map c (infoOn b))
 
+  hops-few : (e : Edge) → Mem e c → hopCount (segmentOf b e) e ≤ maxEntries
+  hops-few e m = let s = bounds in s .edges e m .hops
+
   path-most : length (pathLines (combinedPath b c)) ≤ 5 + 5 + (8 + 10) + (6 + 2) + 1 + maxEdges * infoLineSize + maxEdges * maxEntries * 2 * interfaceLineSize
   unfolding pathLines ascii newline
   path-most =
+      let few : length c ≤ maxEdges = let s = bounds in s .count in
       let infos : List ℕ = flatMap infoLine (p .infos) in
       let interfaces : List ℕ = flatMap interfaceLine (p .interfaces) in
       let fields : List ℕ = item " mtu " (p .mtu) ++ item " expiry " (p .expiry) ++ item " hops " (length (p .hops)) ++ newline in
@@ -114,11 +106,11 @@ module _ (b : List ℕ) (bytes : Bytes b) (src dst : IsdAsn) (ok : verdict b ≡
         four (item " mtu " (p .mtu)) (item " expiry " (p .expiry)) (item " hops " (length (p .hops))) newline,
         item-most " mtu " 4 (p .mtu) (omega (arith, mtu-lt b c)),
         item-most " expiry " 9 (p .expiry) (omega (arith, expiry-lt b c)),
-        item-most " hops " 1 (length (p .hops)) (omega (arith, hops-few)),
+        item-most " hops " 1 (length (p .hops)) (omega (arith, path-hops b c few hops-few)),
         flat-most infoLine infoLineSize (p .infos) (λ i m. info-most i (good-infos b bytes c i m)),
         flat-most interfaceLine interfaceLineSize (p .interfaces) (λ i m. interface-most i (good-interfaces b bytes c i m)),
         infos-few,
-        interfaces-few,
+        path-interfaces b c few hops-few,
       )
 
   lines-most : (number : ℕ) → number < 10 ^ 20 → length (solutionLines b number c) ≤ solutionTextSize

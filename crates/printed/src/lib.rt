@@ -36,8 +36,8 @@ pub struct Opening {
 }
 
 // Lists the solutions of an input (source 8, destination 8, then the book) into `records`, and writes the
-// list's first line into `out`: their count and that of the paths, or a refusal. A piece of a text: demand 1's zeros are for
-// the functions that answer a host (docs/DECISIONS.md).
+// list's first line into `out`: their count and that of the paths, or a refusal. It makes a piece of a text, to which
+// demand 1 does not apply: docs/DECISIONS.md says which functions it binds.
 pub fn first_line(input: &[u8], records: &mut [u8], out: &mut [u8]) -> Opening
     ensures { λ r. ⌜ (now (records .exit) ≡ listed (now (input .entry)) (length (now (records .entry))) .1) × (r .solutions ≡ countOf (listed (now (input .entry)) (length (now (records .entry))) .0)) × (now (out .exit) ≡ written (now (out .entry)) 0 (firstLine (now (input .entry)) (length (now (records .entry))))) × (r .length ≡ length (firstLine (now (input .entry)) (length (now (records .entry))))) × (r .length ≤ firstLineSize) ⌝ }
 {
@@ -62,7 +62,7 @@ pub fn first_line(input: &[u8], records: &mut [u8], out: &mut [u8]) -> Opening
 }
 
 // Writes the lines of the solution whose record stands in slot k, and answers how long they are. A slot
-// that holds no solution's record has none. A piece of a text, like the first line.
+// that holds no solution's record has none. As for the first line, demand 1 does not apply.
 pub fn solution_lines(input: &[u8], records: &[u8], k: usize, out: &mut [u8]) -> usize
     ensures { λ r. ⌜ (now (out .exit) ≡ written (now (out .entry)) 0 (slotText (now (input .entry)) (now (records .entry)) k)) × (r ≡ length (slotText (now (input .entry)) (now (records .entry)) k)) × (r ≤ solutionTextSize) ⌝ }
 {

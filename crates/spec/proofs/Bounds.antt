@@ -6,7 +6,7 @@ use native.Mathlib.Nat.{suc-mul, zero-mul}
 use native.Mathlib.Omega.{arith}
 use mathlib.Core.Path.{_≡_, refl, sym, ap, _∙_}
 use mathlib.Core.Bool.{Bool, true, false}
-use mathlib.Core.List.{List, [], _∷_, _++_, map, flatMap, List·Memᴰ as Mem, List·Memᴰ·head as head, List·Memᴰ·tail as tail}
+use mathlib.Core.List.{List, [], _∷_, _++_, flatMap, List·Memᴰ as Mem, List·Memᴰ·head as head, List·Memᴰ·tail as tail}
 use lib.ListN.{length, length-append, length-map}
 use Rattle.spec.specs.declared.IsdAsn.{IsdAsn}
 use Rattle.spec.specs.declared.HopField.{HopField}
@@ -105,6 +105,16 @@ interfaces-most seg e =
       flat-most (interfacesAt seg e) 2 (usedEntries seg e) (λ i m. two-interfaces seg e i),
     )
 
+-- hops and interfaces of a path, from those of its edges
+module _ (b : List ℕ) (c : List Edge) (few : length c ≤ maxEdges) (each : (e : Edge) → Mem e c → hopCount (segmentOf b e) e ≤ maxEntries) where
+  pub path-hops : length (combinedPath b c .hops) ≤ maxEdges * maxEntries
+  unfolding combinedPath hopsOn
+  path-hops = omega (arith, flat-most (hopsOn b) maxEntries c (λ e m. omega (arith, hops-length (segmentOf b e) e, each e m)))
+
+  pub path-interfaces : length (combinedPath b c .interfaces) ≤ maxEdges * maxEntries * 2
+  unfolding combinedPath interfacesOn
+  path-interfaces = omega (arith, flat-most (interfacesOn b) (maxEntries * 2) c (λ e m. omega (arith, interfaces-most (segmentOf b e) e, each e m)))
+
 octets-split : (p : CombinedPath)
     → pathOctets p
     ≡ (((pathHeadOctets (pathHead p) ++ flatMap infoOctets (p .infos)) ++ flatMap hopOctets (p .hops)) ++ flatMap interfaceAsOctets (p .interfaces))
@@ -134,14 +144,10 @@ path-length p good =
 
 pub path-fits : (b : List ℕ) → Bytes b → AcceptedBook b → (c : List Edge) → length c ≤ maxEdges → ((e : Edge) → Mem e c → Stored b e)
     → length (pathOctets (combinedPath b c)) ≤ pathSize
-unfolding combinedPath hopsOn interfacesOn
+unfolding combinedPath
 path-fits b bytes a c most st =
-    let p : CombinedPath = combinedPath b c in
-    let bound : (e : Edge) → Mem e c → EdgeBounds b e = λ e m. edge-bounds b a e (st e m) in
-    let n : length (map (infoOn b) c) ≡ length c = length-map c (infoOn b) in
-    let h = flat-most (hopsOn b) maxEntries c (λ e m. omega (arith, hops-length (segmentOf b e) e, bound e m .hops)) in
-    let i = flat-most (interfacesOn b) (maxEntries * 2) c (λ e m. omega (arith, interfaces-most (segmentOf b e) e, bound e m .hops)) in
-    omega (arith, path-length p (good-hops b bytes c))
+    let each : (e : Edge) → Mem e c → hopCount (segmentOf b e) e ≤ maxEntries = λ e m. edge-bounds b a e (st e m) .hops in
+    omega (arith, path-length (combinedPath b c) (good-hops b bytes c), length-map c (infoOn b), path-hops b c most each, path-interfaces b c most each)
 
 -- ---- a chain
 

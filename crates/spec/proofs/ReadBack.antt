@@ -87,11 +87,11 @@ interface-of [] good k = omega arith
 interface-of (i ∷ is) good zero = good i (head refl) .local
 interface-of (i ∷ is) good (suc k) = interface-of is (λ j m. good j (tail m)) k
 
-pub as-back : (a : IsdAsn) → a .0 < 2 ^ 64 → (rest : List ℕ) → isdAsnAt (asOctets a ++ rest) 0 ≡ a
+as-back : (a : IsdAsn) → a .0 < 2 ^ 64 → (rest : List ℕ) → isdAsnAt (asOctets a ++ rest) 0 ≡ a
 unfolding isdAsnAt asOctets
 as-back a h rest = λ k. record { 0 = octets8-back (a .0) rest h k }
 
-pub as-length : (a : IsdAsn) → a .0 < 2 ^ 64 → length (asOctets a) ≡ 8
+as-length : (a : IsdAsn) → a .0 < 2 ^ 64 → length (asOctets a) ≡ 8
 unfolding asOctets octets8 octets4 octets2
 as-length a h = refl
 
@@ -115,9 +115,18 @@ both-read f g (k ∷ ks) (i ∷ is) p q =
     ap₂ {B = List PathInterface} (λ (a : PathInterface) l. a ∷ l) (λ t. record { local = head-eq-of-cons-eq p t; id = head-eq-of-cons-eq q t })
     (both-read f g ks is (tail-eq-of-cons-eq p) (tail-eq-of-cons-eq q))
 
-pub ases-flat : (is : List PathInterface) → flatMap interfaceAsOctets is ≡ flatMap asOctets (map localOf is)
+ases-flat : (is : List PathInterface) → flatMap interfaceAsOctets is ≡ flatMap asOctets (map localOf is)
 unfolding interfaceAsOctets
 ases-flat is = sym (flat-map localOf asOctets is)
+
+-- the ASes of interfaces, read where they stand
+pub ases-read : (is : List PathInterface) → ((i : PathInterface) → Mem i is → GoodInterface i) → (r front rest : List ℕ) (base : ℕ)
+    → length front ≡ base → r ≡ front ++ (flatMap interfaceAsOctets is ++ rest) → map (λ k. isdAsnAt r (base + 8 * k)) (range 0 (length is)) ≡ map localOf is
+ases-read is good r front rest base l q =
+    ap (λ n. map (λ k. isdAsnAt r (base + 8 * k)) (range 0 n)) (sym (length-map is localOf))
+    ∙ read-all isdAsnAt asOctets (λ a. a .0 < 2 ^ 64) 8 isdAsnAt-shift as-back as-length r base (map localOf is)
+    (λ a m. let w = map-mem localOf is m in subst (λ (x : IsdAsn). x .0 < 2 ^ 64) (sym (w .2)) (good (w .0) (w .1) .local))
+    0 front rest (omega (arith, l)) (q ∙ ap (λ l. front ++ (l ++ rest)) (ases-flat is))
 
 ids-flat : (is : List PathInterface) → flatMap interfaceIdOctets is ≡ flatMap octets2 (map idOf is)
 unfolding interfaceIdOctets
@@ -140,11 +149,9 @@ module _ (p : CombinedPath) (n : ℕ) where
   abbrev base : ℕ
   base = pathHeadSize + infoSize * length (p .infos) + hopSize * length (p .hops)
 
-  at-ases : whole ≡ front ++ (flatMap asOctets (map localOf (p .interfaces)) ++ (flatMap interfaceIdOctets (p .interfaces) ++ after))
+  at-ases : whole ≡ front ++ (flatMap interfaceAsOctets (p .interfaces) ++ (flatMap interfaceIdOctets (p .interfaces) ++ after))
   unfolding padded pathOctets
-  at-ases =
-      regroup (pathHeadOctets (pathHead p)) (flatMap infoOctets (p .infos)) (flatMap hopOctets (p .hops)) (flatMap interfaceAsOctets (p .interfaces)) _ _
-      ∙ ap (λ l. front ++ (l ++ (flatMap interfaceIdOctets (p .interfaces) ++ after))) (ases-flat (p .interfaces))
+  at-ases = regroup (pathHeadOctets (pathHead p)) (flatMap infoOctets (p .infos)) (flatMap hopOctets (p .hops)) (flatMap interfaceAsOctets (p .interfaces)) _ _
 
   at-ids : whole ≡ (front ++ flatMap interfaceAsOctets (p .interfaces)) ++ (flatMap octets2 (map idOf (p .interfaces)) ++ after)
   unfolding padded pathOctets
@@ -199,10 +206,8 @@ module _ (p : CombinedPath) (n : ℕ) where
 
         ases : map (λ k. isdAsnAt whole (asesOffset whole + 8 * k)) (range 0 (length (p .interfaces))) ≡ map localOf (p .interfaces)
         ases =
-            ap₂ (λ a m. map (λ k. isdAsnAt whole (a + 8 * k)) (range 0 m)) starts-ases (sym (length-map (p .interfaces) localOf))
-            ∙ read-all isdAsnAt asOctets (λ a. a .0 < 2 ^ 64) 8 isdAsnAt-shift as-back as-length whole base (map localOf (p .interfaces))
-            (λ a m. let w = map-mem localOf (p .interfaces) m in subst (λ (x : IsdAsn). x .0 < 2 ^ 64) (sym (w .2)) (good (w .0) (w .1) .local))
-            0 front (flatMap interfaceIdOctets (p .interfaces) ++ after) (omega (arith, front-length)) at-ases
+            ap (λ a. map (λ k. isdAsnAt whole (a + 8 * k)) (range 0 (length (p .interfaces)))) starts-ases
+            ∙ ases-read (p .interfaces) good whole front (flatMap interfaceIdOctets (p .interfaces) ++ after) base front-length at-ases
 
         ids : map (λ k. be16 whole (idsOffset whole + 2 * k)) (range 0 (length (p .interfaces))) ≡ map idOf (p .interfaces)
         ids =
