@@ -88,17 +88,6 @@ fn two(s: &mut [u8], at: usize, cost: u16, e: SolutionEdge, f: SolutionEdge) -> 
     builder::put_solution(s, at, Solution::new(cost, 2, [e, f, up(0, 0, 0)]))
 }
 
-fn three(
-    s: &mut [u8],
-    at: usize,
-    cost: u16,
-    e: SolutionEdge,
-    f: SolutionEdge,
-    g: SolutionEdge,
-) -> usize {
-    builder::put_solution(s, at, Solution::new(cost, 3, [e, f, g]))
-}
-
 // ---- sorted
 
 // A line for each record.
@@ -132,36 +121,47 @@ fn by_keys() {
     show(&s);
 }
 
+// Positions of two edges, and the peer of the second.
+fn pair(s: &mut [u8], at: usize, first: u8, second: u8, peer: u8) -> usize {
+    two(s, at, 4, up(first, 1, 0), down(second, 0, peer))
+}
+
 // Positions alone differ, or a peer after them: the fingerprints decide.
 fn by_fingerprints() {
     let mut s = [0u8; 12 * Solution::SIZE];
-    let mut at = two(&mut s, 0, 4, up(5, 1, 0), down(2, 0, 0));
-    at = two(&mut s, at, 4, up(4, 1, 0), down(2, 0, 0));
-    at = two(&mut s, at, 4, up(3, 1, 0), down(2, 0, 0));
-    at = two(&mut s, at, 4, up(2, 1, 0), down(2, 0, 0));
-    at = two(&mut s, at, 4, up(1, 1, 0), down(2, 0, 0));
-    at = two(&mut s, at, 4, up(0, 1, 0), down(2, 0, 0));
-    at = two(&mut s, at, 4, up(0, 1, 0), down(0, 0, 0));
-    at = two(&mut s, at, 4, up(0, 1, 0), down(1, 0, 0));
-    at = two(&mut s, at, 4, up(0, 1, 0), down(3, 0, 0));
-    at = two(&mut s, at, 4, up(0, 1, 0), down(5, 0, 0));
-    at = two(&mut s, at, 4, up(3, 1, 0), down(2, 0, 1));
-    two(&mut s, at, 4, up(2, 1, 0), down(2, 0, 1));
+    let mut at = pair(&mut s, 0, 5, 2, 0);
+    at = pair(&mut s, at, 4, 2, 0);
+    at = pair(&mut s, at, 3, 2, 0);
+    at = pair(&mut s, at, 2, 2, 0);
+    at = pair(&mut s, at, 1, 2, 0);
+    at = pair(&mut s, at, 0, 2, 0);
+    at = pair(&mut s, at, 0, 0, 0);
+    at = pair(&mut s, at, 0, 1, 0);
+    at = pair(&mut s, at, 0, 3, 0);
+    at = pair(&mut s, at, 0, 5, 0);
+    at = pair(&mut s, at, 3, 2, 1);
+    pair(&mut s, at, 2, 2, 1);
     order::sort(&book(), &mut s, 12);
     show(&s);
+}
+
+// Positions of three edges, and the shortcut of the third.
+fn triple(s: &mut [u8], at: usize, a: u8, b: u8, c: u8, shortcut: u8) -> usize {
+    let edges = [up(a, 0, 0), down(b, 0, 0), down(c, shortcut, 0)];
+    builder::put_solution(s, at, Solution::new(7, 3, edges))
 }
 
 // Positions of one fingerprint in each edge: these decide last, after the third edge's shortcut. At 200
 // and 250 the book has no segment, and both have the fingerprint of nothing.
 fn by_positions() {
     let mut s = [0u8; 7 * Solution::SIZE];
-    let mut at = three(&mut s, 0, 7, up(4, 0, 0), down(1, 0, 0), down(1, 2, 0));
-    at = three(&mut s, at, 7, up(1, 0, 0), down(4, 0, 0), down(4, 2, 0));
-    at = three(&mut s, at, 7, up(1, 0, 0), down(4, 0, 0), down(1, 2, 0));
-    at = three(&mut s, at, 7, up(1, 0, 0), down(1, 0, 0), down(4, 2, 0));
-    at = three(&mut s, at, 7, up(4, 0, 0), down(1, 0, 0), down(1, 3, 0));
-    at = three(&mut s, at, 7, up(250, 0, 0), down(1, 0, 0), down(1, 2, 0));
-    three(&mut s, at, 7, up(200, 0, 0), down(1, 0, 0), down(1, 2, 0));
+    let mut at = triple(&mut s, 0, 4, 1, 1, 2);
+    at = triple(&mut s, at, 1, 4, 4, 2);
+    at = triple(&mut s, at, 1, 4, 1, 2);
+    at = triple(&mut s, at, 1, 1, 4, 2);
+    at = triple(&mut s, at, 4, 1, 1, 3);
+    at = triple(&mut s, at, 250, 1, 1, 2);
+    triple(&mut s, at, 200, 1, 1, 2);
     order::sort(&book(), &mut s, 7);
     show(&s);
 }
