@@ -2,7 +2,8 @@
 """Wrong definitions made by rule, in the form of planted.edits, on standard output: for `plant FILE`.
 
 Every rule of a hop at every place of the hop, in both directions, on every kind of edge; every part of an info so; every part of a path on
-every edge of a chain; every key of the order on every edge of a chain. Left out are places that no chain has.
+every edge of a chain; every key of the order on every edge of a chain; every number of a stored edge, by its entry and peer. Left out are
+places that no chain has.
 """
 PLACES = {
     "the leaf": "eqb (i + 1) (length (seg .entries)) && not (atShortcut e i)",
@@ -71,6 +72,15 @@ KEYS = {
     "fingerprint": ("compareBy compare (fingerprint (x .position)) (fingerprint (y .position))",
                     "compareBy compare (fingerprint (y .position)) (fingerprint (x .position))"),
 }
+# Entries of a stored edge, and the peers of one.
+ENTRIES = {"entry 0 of two": "eqb i 0 && eqb n 2", "entry 0 of more": "eqb i 0 && ltb 2 n", "entry 1": "eqb i 1", "entry 2 or above": "ltb 1 i"}
+PEERED = {"the only entry": "eqb n 1", "the first of several": "eqb i 0 && ltb 1 n", "a middle entry": "ltb 0 i && ltb (i + 1) n",
+          "the leaf of several": "ltb 0 i && eqb (i + 1) n"}
+PEERS = {"peer 0": "eqb p 0", "peer 1": "eqb p 1", "peer 2 or 3": "ltb 1 p"}
+# The text of an edge, and its ends, weight and peer.
+AS_EDGES = {"up": ("leaf there", " ∷ edgeOf"), "down": ("there leaf", " ∷ []")}
+PEER_EDGES = {"up": ("leaf (Peering local (link .hop .ingress) (link .peer) (link .interface))", "n - i"),
+              "down": ("(Peering (link .peer) (link .interface) local (link .hop .ingress)) leaf", "n - 1 - i")}
 
 
 def possible(where, place, kind):
@@ -109,6 +119,27 @@ def main():
             plant(f"no expiry of {one}", ("least maxTime (map expiryOn c)", f"least maxTime (map expiryOn {without})"), lists)
             for field, of in (("infos", "map infoOn"), ("hops", "flatMap hopsOn"), ("interfaces", "flatMap interfacesOn")):
                 plant(f"{field} of {one} are another edge's", (f"{field} = {of} c;", f"{field} = {of} {twice};"), lists)
+    print("file: specs/Edges.antt")
+    nowhere = "(Peering (asOf seg 0) 0 (asOf seg 0) 0)"
+
+    def edges(said, ends, weight, peer, after, here):
+        edge = f"edgeOf seg {ends} ({weight}) i {peer}{after}"
+        for wrong, new in {
+            "weight one more": edge.replace(f"({weight})", f"({weight} + (if {here} then 1 else 0))"),
+            "weight one less": edge.replace(f"({weight})", f"({weight} - (if {here} then 1 else 0))"),
+            "shortcut one more": edge.replace(f"({weight}) i", f"({weight}) (i + (if {here} then 1 else 0))"),
+            "peer one more": edge.replace(f" i {peer}", f" i ({peer} + (if {here} then 1 else 0))"),
+            "lost": f"(if {here} then edgeOf seg {nowhere} {nowhere} 0 0 0 else edgeOf seg {ends} ({weight}) i {peer}){after}",
+        }.items():
+            plant(f"{said}: {wrong}", (edge, new))
+
+    for way, (ends, after) in AS_EDGES.items():
+        for entry, here in ENTRIES.items():
+            edges(f"an AS edge {way}, {entry}", ends, "n - 1 - i", "0", after, here)
+    for way, (ends, weight) in PEER_EDGES.items():
+        for entry, here in PEERED.items():
+            for peer, which in PEERS.items():
+                edges(f"a peer edge {way}, {peer} of {entry}", ends, weight, "(p + 1)", "", f"{here} && {which}")
     print("file: specs/Order.antt")
     lists = ("use lib.ListN.{length}", "use lib.ListN.{length, take, drop}\\nuse lib.Dec.{eqb}")
     for count in (1, 2, 3):

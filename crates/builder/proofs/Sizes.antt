@@ -1,6 +1,5 @@
 -- The parts are as long as spec says: a layout that changes there and not here is refused.
 -- Assumes nothing.
-use Prim.Native.Nat.{ℕ, _+_}
 use native.Mathlib.Omega.{arith}
 use mathlib.Core.Path.{_≡_}
 use lib.ListN.{length, length-append}

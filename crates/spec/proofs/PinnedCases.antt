@@ -239,6 +239,15 @@ lastBook =
     ∷ segment 1 5 (plain a114 0 7 ∷ plain a111 8 9 ∷ plain a113 6 0 ∷ [])
     ∷ [])
 
+-- a third peer of a first entry and of a leaf, to one AS
+abbrev pub thirdBook : List ℕ
+thirdBook =
+    others
+    (segment 1 1 (linked a110 0 1 (link a114 8 8 ∷ link a114 9 9 ∷ link a113 21 22 ∷ []) ∷ plain a111 2 0 ∷ [])
+    ∷ segment 1 2 (plain a112 0 1 ∷ linked a111 2 0 (link a114 8 8 ∷ link a114 9 9 ∷ link a113 23 24 ∷ []) ∷ [])
+    ∷ segment 1 3 (linked a113 0 0 (link a110 22 21 ∷ link a111 24 23 ∷ []) ∷ [])
+    ∷ [])
+
 -- ---- the table
 
 unfoldable pub table : List Case
@@ -506,4 +515,9 @@ table =
     ∷ case (list upBook a112 a113 64) (4 ∷ (solution 3 (edge 4 1 0 0 ∷ edge 0 0 0 1 ∷ edge 5 0 0 1 ∷ []) ++ solution 3 (edge 2 0 0 0 ∷ edge 0 0 0 1 ∷ edge 5 0 0 1 ∷ []) ++ solution 3 (edge 3 0 0 0 ∷ edge 0 0 0 1 ∷ edge 5 0 0 1 ∷ []) ++ solution 3 (edge 1 0 0 0 ∷ edge 0 0 0 1 ∷ edge 5 0 0 1 ∷ [])))
     -- three edges: the position of the second, and on the third the shortcut
     ∷ case (list lastBook a112 a113 64) (4 ∷ (solution 3 (edge 2 0 0 0 ∷ edge 0 0 0 1 ∷ edge 4 1 0 1 ∷ []) ++ solution 3 (edge 2 0 0 0 ∷ edge 1 0 0 1 ∷ edge 4 1 0 1 ∷ []) ++ solution 3 (edge 2 0 0 0 ∷ edge 0 0 0 1 ∷ edge 3 0 0 1 ∷ []) ++ solution 3 (edge 2 0 0 0 ∷ edge 1 0 0 1 ∷ edge 3 0 0 1 ∷ [])))
+    -- a third peer of a first entry and of a leaf, both ways
+    ∷ case (list thirdBook a111 a113 32) (2 ∷ (solution 1 (edge 1 1 3 0 ∷ edge 2 0 2 1 ∷ []) ++ solution 2 (edge 0 0 3 0 ∷ edge 2 0 1 1 ∷ [])))
+    ∷ case (list thirdBook a113 a111 32) (2 ∷ (solution 1 (edge 2 0 2 0 ∷ edge 1 1 3 1 ∷ []) ++ solution 2 (edge 2 0 1 0 ∷ edge 0 0 3 1 ∷ [])))
+    -- the timestamp of position 3
+    ∷ case (least (others (replicate 3 (segment 5 5 []) ++ (one ∷ [])) ∷ []) a111 a110) (1500 ∷ 21601 ∷ [])
     ∷ []
