@@ -29,7 +29,7 @@ use spec::Vertex;
 
 // ---- what a record says
 
-// Two records are the same.
+// Two records are the same: the two numbers of eight bytes of each.
 fn same_words(a: &[u8], b: &[u8]) -> bool
     requires { ⌜ length (now a) ≡ solutionSize ⌝ }
     requires { ⌜ length (now b) ≡ solutionSize ⌝ }

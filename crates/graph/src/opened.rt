@@ -48,7 +48,7 @@ pub(crate) fn wide(x: u16) -> usize
     x as usize
 }
 
-pub(crate) fn pair_within(book: &[u8], at: usize) -> u16
+fn pair_within(book: &[u8], at: usize) -> u16
     requires { ⌜ at + 2 ≤ length (now book) ⌝ }
     ensures { λ r. ⌜ r ≡ be16 (now (book .entry)) at ⌝ }
 {
