@@ -3,8 +3,8 @@
 use native.Mathlib.Omega.{arith}
 use Rattle.spec.specs.Records.{pathHeadIn, idsOffset}
 use borrow.Author.Needs.{needs}
-use Rattle.records.proofs.path.ids_offset.Statement.{statement}
-use Rattle.records.proofs.path.ids_offset.Tie as tie
+use Rattle.records.proofs.path_record.ids_offset.Statement.{statement}
+use Rattle.records.proofs.path_record.ids_offset.Tie as tie
 
 returns : tie.Need-returns
 unfolding idsOffset pathHeadIn

@@ -2,8 +2,8 @@
 -- Assumes nothing.
 use Rattle.spec.specs.Router.{infoAt, recordInfo}
 use borrow.Author.Needs.{needs}
-use Rattle.records.proofs.path.info.Statement.{statement}
-use Rattle.records.proofs.path.info.Tie as tie
+use Rattle.records.proofs.path_record.info.Statement.{statement}
+use Rattle.records.proofs.path_record.info.Tie as tie
 
 returns : tie.Need-returns
 unfolding recordInfo infoAt

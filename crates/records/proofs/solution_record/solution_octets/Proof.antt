@@ -4,8 +4,8 @@ use native.Mathlib.Omega.{arith}
 use Rattle.spec.specs.Records.{noEdge, edgeAt}
 use Rattle.records.proofs.Octets.{record-is}
 use borrow.Author.Needs.{needs}
-use Rattle.records.proofs.solution.solution_octets.Statement.{statement}
-use Rattle.records.proofs.solution.solution_octets.Tie as tie
+use Rattle.records.proofs.solution_record.solution_octets.Statement.{statement}
+use Rattle.records.proofs.solution_record.solution_octets.Tie as tie
 
 returns : tie.Need-returns
 unfolding noEdge edgeAt

@@ -2,8 +2,8 @@
 -- Assumes nothing.
 use Rattle.records.proofs.Octets.{counts-written}
 use borrow.Author.Needs.{needs}
-use Rattle.records.proofs.path.put_counts.Statement.{statement}
-use Rattle.records.proofs.path.put_counts.Tie as tie
+use Rattle.records.proofs.path_record.put_counts.Statement.{statement}
+use Rattle.records.proofs.path_record.put_counts.Tie as tie
 
 returns : tie.Need-returns
 returns c = rw (c .before .before .put-byte4 .ensures, c .before .before .before .before .before .before .put-byte3 .ensures, c .before .before .before .before .before .before .before .before .before .before .put-byte2 .ensures, c .before .before .before .before .before .before .before .before .before .before .before .before .before .before .put-byte .ensures) (counts-written _ _ _ _)

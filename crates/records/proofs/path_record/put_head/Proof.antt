@@ -2,8 +2,8 @@
 -- Assumes nothing.
 use Rattle.records.proofs.Octets.{head-written}
 use borrow.Author.Needs.{needs}
-use Rattle.records.proofs.path.put_head.Statement.{statement}
-use Rattle.records.proofs.path.put_head.Tie as tie
+use Rattle.records.proofs.path_record.put_head.Statement.{statement}
+use Rattle.records.proofs.path_record.put_head.Tie as tie
 
 returns : tie.Need-returns
 returns c = rw (c .before .before .put-ends .ensures, c .before .before .before .before .before .before .before .before .put-counts .ensures) (head-written _ _)

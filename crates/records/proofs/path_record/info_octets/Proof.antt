@@ -3,8 +3,8 @@
 use native.Mathlib.Omega.{arith}
 use Rattle.records.proofs.Octets.{info-is}
 use borrow.Author.Needs.{needs}
-use Rattle.records.proofs.path.info_octets.Statement.{statement}
-use Rattle.records.proofs.path.info_octets.Tie as tie
+use Rattle.records.proofs.path_record.info_octets.Statement.{statement}
+use Rattle.records.proofs.path_record.info_octets.Tie as tie
 
 returns : tie.Need-returns
 returns c = info-is _ _ _ (omega arith) (omega arith) (c .before .bit .ensures .0) (c .bit2 .ensures .0)

@@ -3,8 +3,8 @@
 use native.Mathlib.Omega.{arith}
 use Rattle.spec.specs.Records.{pathHeadIn, asesOffset}
 use borrow.Author.Needs.{needs}
-use Rattle.records.proofs.path.ases_offset.Statement.{statement}
-use Rattle.records.proofs.path.ases_offset.Tie as tie
+use Rattle.records.proofs.path_record.ases_offset.Statement.{statement}
+use Rattle.records.proofs.path_record.ases_offset.Tie as tie
 
 returns : tie.Need-returns
 unfolding asesOffset pathHeadIn

@@ -3,8 +3,8 @@
 use Rattle.spec.specs.Records.{pathHeadIn}
 use Rattle.spec.specs.Book.{isdAsnAt}
 use borrow.Author.Needs.{needs}
-use Rattle.records.proofs.path.path_head.Statement.{statement}
-use Rattle.records.proofs.path.path_head.Tie as tie
+use Rattle.records.proofs.path_record.path_head.Statement.{statement}
+use Rattle.records.proofs.path_record.path_head.Tie as tie
 
 returns : tie.Need-returns
 unfolding pathHeadIn isdAsnAt

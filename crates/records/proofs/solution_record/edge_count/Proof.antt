@@ -2,8 +2,8 @@
 -- Assumes nothing.
 use Rattle.spec.specs.Records.{solutionIn}
 use borrow.Author.Needs.{needs}
-use Rattle.records.proofs.solution.edge_count.Statement.{statement}
-use Rattle.records.proofs.solution.edge_count.Tie as tie
+use Rattle.records.proofs.solution_record.edge_count.Statement.{statement}
+use Rattle.records.proofs.solution_record.edge_count.Tie as tie
 
 returns : tie.Need-returns
 unfolding solutionIn

@@ -2,8 +2,8 @@
 -- Assumes nothing.
 use Rattle.spec.specs.Records.{bit}
 use borrow.Author.Needs.{needs}
-use Rattle.records.proofs.solution.bit.Statement.{statement}
-use Rattle.records.proofs.solution.bit.Tie as tie
+use Rattle.records.proofs.solution_record.bit.Statement.{statement}
+use Rattle.records.proofs.solution_record.bit.Tie as tie
 
 returns : tie.Need-returns
 unfolding bit

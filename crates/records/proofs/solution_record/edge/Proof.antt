@@ -2,8 +2,8 @@
 -- Assumes nothing.
 use Rattle.spec.specs.Records.{recordEdge, edgeAt, edgeOffset}
 use borrow.Author.Needs.{needs}
-use Rattle.records.proofs.solution.edge.Statement.{statement}
-use Rattle.records.proofs.solution.edge.Tie as tie
+use Rattle.records.proofs.solution_record.edge.Statement.{statement}
+use Rattle.records.proofs.solution_record.edge.Tie as tie
 
 returns : tie.Need-returns
 unfolding recordEdge edgeAt edgeOffset

@@ -3,8 +3,8 @@
 use Rattle.spec.specs.Records.{recordInterface}
 use Rattle.spec.specs.Book.{isdAsnAt}
 use borrow.Author.Needs.{needs}
-use Rattle.records.proofs.path.interface.Statement.{statement}
-use Rattle.records.proofs.path.interface.Tie as tie
+use Rattle.records.proofs.path_record.interface.Statement.{statement}
+use Rattle.records.proofs.path_record.interface.Tie as tie
 
 returns : tie.Need-returns
 unfolding recordInterface isdAsnAt

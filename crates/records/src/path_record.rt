@@ -6,7 +6,7 @@ ghost use Rattle.spec.specs.Octets.{octets2, octets4, octets8};
 ghost use Rattle.spec.specs.Records.{asesOffset, idsOffset, infoOctets, pathHeadIn, pathHeadOctets, recordInterface};
 ghost use Rattle.spec.specs.Router.{recordInfo};
 ghost use Rattle.output.specs.Write.{written};
-use crate::solution::bit;
+use crate::solution_record::bit;
 use spec::HopField;
 use spec::InfoField;
 use spec::IsdAsn;
