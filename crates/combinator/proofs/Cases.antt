@@ -4,11 +4,12 @@
 -- Assumes nothing.
 use Prim.Native.Nat.{ℕ}
 use mathlib.Core.Path.{_≡_, ap, _∙_}
-use mathlib.Core.List.{List, _∷_, List·Memᴰ as Mem}
+use mathlib.Core.List.{List, _∷_, _++_, List·Memᴰ as Mem}
 use Rattle.sha256.specs.Message.{sha256}
 use Rattle.spec.proofs.CasesForm.{list, assemble, case, answer}
 use Rattle.spec.proofs.Cases.{table}
 use Rattle.spec.proofs.AddedCases.{table as added, hashed}
+use Rattle.spec.proofs.PinnedCases.{table as pinned}
 use Rattle.spec.proofs.CasesRead.{p-answer, added-answer, hashed-answer}
 use Rattle.combinator.specs.Exports.{Returned, numberedList, numberedPath, listReturned, pathReturned}
 
@@ -26,8 +27,8 @@ module _ (b : List ℕ) (src dst bytes : ℕ) (expected : List ℕ) (r : ℕ) (o
   unfolding answer listReturned numberedList
   hashed-list-case m = ap bytes-of q ∙ hashed-answer (case (list b src dst bytes) expected) m
 
--- `combinator_assemble`, which no digest concerns: a case of the second table
+-- `combinator_assemble`, which no digest concerns: a case of the second or the third table
 pub assemble-case : (b : List ℕ) (src dst : ℕ) (given : List ℕ) (bytes : ℕ) (expected : List ℕ) (r : ℕ) (out : List ℕ)
-    → _≡_ {A = Returned} (r, out) (pathReturned b src dst given bytes) → Mem (case (assemble b src dst given bytes) expected) added → r ∷ out ≡ expected
+    → _≡_ {A = Returned} (r, out) (pathReturned b src dst given bytes) → Mem (case (assemble b src dst given bytes) expected) (added ++ pinned) → r ∷ out ≡ expected
 unfolding answer pathReturned numberedPath
 assemble-case b src dst given bytes expected r out q m = ap bytes-of q ∙ added-answer (case (assemble b src dst given bytes) expected) m
