@@ -221,7 +221,7 @@ def parts(path):
 
 
 def held(path):
-    """The ids that a router holds at the hops of a path: document 01's router rule."""
+    """The ids that a router holds at the hops of a path: docs/SPECIFICATION.md 7.1 to 7.4."""
     infos, hops, _ = parts(path)
     found = []
     for flags, count, ident, _ in infos:

@@ -1,5 +1,5 @@
--- A second table of computed cases, beside the P table: what that leaves open of the book, the edges, the chains, their order, assembly and the
--- records. Beside each answer stands where it is from: the Rust (its `get_paths` and `path`, run unchanged), document 01, or worked out by hand.
+-- A second table of computed cases, beside the first (Cases): what that leaves open of the book, the edges, the chains, their order, assembly and the
+-- records. Beside each answer stands where it is from: the Rust (its `get_paths` and `path`, run unchanged), docs/SPECIFICATION.md, whose section is named, or worked out by hand.
 -- The fingerprint's digest is SHA-256.
 -- Assumes nothing.
 use Prim.Native.Nat.{ℕ, _+_, _-_}
@@ -273,7 +273,7 @@ blank peers = replicate 25 0 ++ (peers ∷ [])
 -- where the fingerprint's input orders as its digest does, or does not matter: the digest hands its input back
 pub table : List Case
 table =
-    -- document 01: the worked list as bytes, its record, and its path in 1538 bytes: the number, then counts, MTU, expiry; first and last AS; infos; hops; interface ASes; ids
+    -- 8.1, 8.3, 10.6: the worked list as bytes, its record, and its path in 1538 bytes: the number, then counts, MTU, expiry; first and last AS; infos; hops; interface ASes; ids
     case (list workedBytes a111 a110 20) (1 ∷ 0 ∷ 1 ∷ 1 ∷ replicate 17 0)
     ∷ case (assemble workedBytes a111 a110 (0 ∷ 1 ∷ 1 ∷ replicate 13 0) 1538) (0
     ∷ 1 ∷ 2 ∷ 2 ∷ 0 ∷ 5 ∷ 0x46 ∷ 0 ∷ 0x0f ∷ 0x96 ∷ 0xa0
@@ -295,7 +295,7 @@ table =
     ∷ 0 ∷ 1 ∷ 0xff ∷ 0 ∷ 0 ∷ 0 ∷ 1 ∷ 0x11
     ∷ 0 ∷ 5 ∷ 0 ∷ 7
     ∷ replicate (pathSize - 74) 0)
-    -- document 01: the same AS number in another ISD is another AS
+    -- 1.3: the same AS number in another ISD is another AS
     ∷ case (list workedBytes b110 a111 16) (0 ∷ replicate 16 0)
     ∷ case (list workedBytes a111 b110 16) (0 ∷ replicate 16 0)
     -- the Rust: to the shortcut, against and in construction direction: its ingress MTU does not count, its ingress is not shown, units below it do not count
@@ -389,7 +389,7 @@ table =
     -- the Rust: an AS at three interfaces: loop; at two: a path
     ∷ case (print (input loopBook a110 a112)) (Printed.ascii "solutions 2 paths 1\n1 cost 2 segments 2 mtu 1500 expiry 21601 hops 4\ninfo 0 0103 1\ninfo 1 0003 1\nif 0001ff0000000110 1\nif 0001ff0000000111 1\nif 0001ff0000000111 6\nif 0001ff0000000112 1\n2 cost 2 segments 2 loop\n")
     ∷ case (assemble loopBook a110 a112 (solution 2 (edge 0 0 0 0 ∷ edge 1 0 0 1 ∷ [])) pathSize) (1 ∷ replicate pathSize 0)
-    -- document 01: no interfaces: bare
+    -- 6.10: no interfaces: bare
     ∷ case (print (input bareBook a111 a110)) (Printed.ascii "solutions 1 paths 0\n1 cost 1 segments 1 bare\n")
     ∷ case (assemble bareBook a111 a110 (solution 1 (edge 0 0 0 0 ∷ [])) pathSize) (2 ∷ replicate pathSize 0)
     -- the Rust: MTU 65535, units 255; MTU 0, expiry 4294967294
@@ -406,7 +406,7 @@ table =
     -- the Rust: an edge from an AS to itself may stand first, and not last
     ∷ case (list selfBook a110 a111 64) (4 ∷ (solution 1 (edge 2 0 0 1 ∷ []) ++ solution 1 (edge 0 0 0 1 ∷ edge 2 0 0 1 ∷ []) ++ solution 2 (edge 3 0 0 1 ∷ edge 2 0 0 1 ∷ []) ++ solution 2 (edge 3 0 0 1 ∷ edge 0 0 0 1 ∷ edge 2 0 0 1 ∷ [])))
     ∷ case (list selfBook a111 a110 32) (2 ∷ (solution 1 (edge 2 0 0 0 ∷ []) ++ solution 1 (edge 1 0 0 1 ∷ edge 2 0 0 0 ∷ [])))
-    -- document 01: equal ends: no solution; a record then is a stranger's
+    -- 4.3, 9.6: equal ends: no solution; a record then is a stranger's
     ∷ case (list selfBook a110 a110 16) (0 ∷ replicate 16 0)
     ∷ case (assemble selfBook a110 a110 (solution 0 (edge 0 0 0 1 ∷ [])) pathSize) (65546 ∷ replicate pathSize 0)
     -- the Rust: segments with no entries have no edges
@@ -426,14 +426,14 @@ table =
     ∷ case (list shortcutsBook a111 a110 32) (2 ∷ (solution 1 (edge 1 1 0 0 ∷ []) ++ solution 1 (edge 0 0 0 0 ∷ [])))
     -- the Rust: the cheaper first, and at equal cost fewer edges
     ∷ case (list costsBook a112 a110 48) (3 ∷ (solution 2 (edge 3 0 0 0 ∷ []) ++ solution 2 (edge 2 0 0 0 ∷ edge 1 0 0 0 ∷ []) ++ solution 3 (edge 0 0 0 0 ∷ [])))
-    -- the Rust, ties by document 01: the second edge decides before the positions do
+    -- the Rust, ties by 5.3: the second edge decides before the positions do
     ∷ case (list twinsBook a111 a112 64) (4 ∷ (solution 2 (edge 0 0 0 0 ∷ edge 3 1 0 1 ∷ []) ++ solution 2 (edge 1 0 0 0 ∷ edge 3 1 0 1 ∷ []) ++ solution 2 (edge 0 0 0 0 ∷ edge 2 0 0 1 ∷ []) ++ solution 2 (edge 1 0 0 0 ∷ edge 2 0 0 1 ∷ [])))
     -- the Rust: all keys of the first edge before those of the second
     ∷ case (list keysBook a111 a113 32) (2 ∷ (solution 2 (edge 1 1 1 0 ∷ edge 2 0 2 1 ∷ []) ++ solution 2 (edge 0 0 1 0 ∷ edge 2 0 1 1 ∷ [])))
-    -- document 01: more solutions than slots: 8; bytes after the last record are zero
+    -- 9.5, 9.7: more solutions than slots: 8; bytes after the last record are zero
     ∷ case (list costsBook a112 a110 47) (65544 ∷ replicate 47 0)
     ∷ case (list costsBook a112 a110 63) (3 ∷ (solution 2 (edge 3 0 0 0 ∷ []) ++ solution 2 (edge 2 0 0 0 ∷ edge 1 0 0 0 ∷ []) ++ solution 3 (edge 0 0 0 0 ∷ []) ++ replicate 15 0))
-    -- document 01: slots
+    -- 8.2: slots
     ∷ case (room 0) (0 ∷ [])
     ∷ case (room 15) (0 ∷ [])
     ∷ case (room 16) (1 ∷ [])
@@ -442,7 +442,7 @@ table =
     ∷ case (room 65536) (4096 ∷ [])
     ∷ case (room 65552) (4096 ∷ [])
     ∷ case (room 1000000) (4096 ∷ [])
-    -- document 01: answers 1 to 7 and their order. 1: under 8 bytes, a head or a byte of the bodies is lacking
+    -- 9.2 to 9.4: answers 1 to 7 and their order. 1: under 8 bytes, a head or a byte of the bodies is lacking
     ∷ case (accept (replicate 0 0)) (1 ∷ [])
     ∷ case (accept (0 ∷ 65 ∷ replicate 5 0)) (1 ∷ [])
     ∷ case (accept (0 ∷ 1 ∷ replicate 15 0)) (1 ∷ [])
@@ -502,10 +502,10 @@ table =
     ∷ case (list (replicate 9 0) a111 a110 20) (65538 ∷ replicate 20 0)
     ∷ case (list (replicate 9 0) a111 a110 0) (65538 ∷ [])
     ∷ case (assemble (replicate 9 0) a111 a110 [] 3) (65538 ∷ replicate 3 0)
-    -- document 01: 9 below 1538 bytes, and before 10
+    -- 9.6: 9 below 1538 bytes, and before 10
     ∷ case (assemble workedBytes a111 a110 (0 ∷ 1 ∷ 1 ∷ replicate 13 0) 1537) (65545 ∷ replicate 1537 0)
     ∷ case (assemble workedBytes a111 a110 (replicate 16 0) (pathSize - 1)) (65545 ∷ replicate (pathSize - 1) 0)
-    -- document 01: 10: another cost, count, third byte, position, shortcut, peer, direction; an unused edge that is not zero; 15 bytes, 17 bytes; the ends turned round
+    -- 9.6: 10: another cost, count, third byte, position, shortcut, peer, direction; an unused edge that is not zero; 15 bytes, 17 bytes; the ends turned round
     ∷ case (assemble workedBytes a111 a110 (0 ∷ 2 ∷ 1 ∷ replicate 13 0) pathSize) (65546 ∷ replicate pathSize 0)
     ∷ case (assemble workedBytes a111 a110 (0 ∷ 1 ∷ 2 ∷ replicate 13 0) pathSize) (65546 ∷ replicate pathSize 0)
     ∷ case (assemble workedBytes a111 a110 (0 ∷ 1 ∷ 1 ∷ 1 ∷ replicate 12 0) pathSize) (65546 ∷ replicate pathSize 0)
@@ -517,7 +517,7 @@ table =
     ∷ case (assemble workedBytes a111 a110 (0 ∷ 1 ∷ 1 ∷ replicate 12 0) pathSize) (65546 ∷ replicate pathSize 0)
     ∷ case (assemble workedBytes a111 a110 (0 ∷ 1 ∷ 1 ∷ replicate 14 0) pathSize) (65546 ∷ replicate pathSize 0)
     ∷ case (assemble workedBytes a110 a111 (0 ∷ 1 ∷ 1 ∷ replicate 13 0) pathSize) (65546 ∷ replicate pathSize 0)
-    -- document 01: an input under 16 bytes, one with an empty book, and refused books
+    -- 10.1, 10.5: an input under 16 bytes, one with an empty book, and refused books
     ∷ case (print (replicate 15 0)) (Printed.ascii "refused 1\n")
     ∷ case (print (replicate 16 0)) (Printed.ascii "refused 1\n")
     ∷ case (print (input (replicate 9 0) a111 a110)) (Printed.ascii "refused 2\n")

@@ -1,5 +1,5 @@
--- Document 01's bench cases marked P: one table of questions with their answers, and one theorem, which computes every answer.
--- Every answer is document 01's own. No case depends on the digest.
+-- The cases of docs/SPECIFICATION.md 13.1: one table of questions with their answers, and one theorem, which computes every answer.
+-- Every answer is the specification's own. No case depends on the digest.
 -- Assumes nothing.
 use Prim.Native.Nat.{ℕ}
 use mathlib.Core.List.{List, [], _∷_, flatMap}

@@ -26,7 +26,7 @@ unfolding right
 answered digest cs t c m =
     sameList-eq (answer digest (c .question)) (c .expected) (every-mem (right digest) cs t c m)
 
--- document 01's P cases, for every digest
+-- the first table, for every digest
 pub p-answer : (digest : List ℕ → List ℕ) (c : Case) → Mem c Cases.table → answer digest (c .question) ≡ c .expected
 p-answer digest = answered digest Cases.table (Cases.all-right digest)
 

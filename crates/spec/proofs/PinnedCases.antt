@@ -1,7 +1,7 @@
--- A third table of computed cases: one rule of document 01 decides each, at a hop, an edge or a byte where the other two leave it open. Every answer
--- is the Rust's, laid out as document 01 says, but where a comment says `by hand`; `tests/stored/pins.py` holds all to the Rust's stored answers
+-- A third table of computed cases: one rule of docs/SPECIFICATION.md decides each, at a hop, an edge or a byte where the other two leave it open. Every answer
+-- is the Rust's, laid out as section 8 says, but where a comment says `by hand`; `tests/stored/pins.py` holds all to the Rust's stored answers
 -- and to `tests/model.py`. The digest hands its input back, as in the second table; the orders are the Rust's, by SHA-256, all the same. Within ties
--- positions decide, by document 01: the Rust leaves them open.
+-- positions decide, by 5.3: the Rust leaves them open.
 -- Assumes nothing.
 use Prim.Native.Nat.{ℕ, _-_}
 use Prim.Native.String.{String}
@@ -426,7 +426,7 @@ table =
     ∷ case (list closeBook a112 a111 80) (5 ∷ (solution 1 (edge 0 1 0 0 ∷ []) ++ solution 1 (edge 1 1 0 0 ∷ []) ++ solution 1 (edge 2 1 0 0 ∷ []) ++ solution 1 (edge 3 1 0 0 ∷ []) ++ solution 3 (edge 4 2 0 1 ∷ edge 4 1 0 0 ∷ [])))
     -- the cheaper first: 31, 32, 33
     ∷ case (list costlyBook a110 a114 48) (3 ∷ (solution 31 (edge 3 0 0 0 ∷ edge 0 0 0 1 ∷ edge 4 0 0 1 ∷ []) ++ solution 32 (edge 3 0 0 0 ∷ edge 1 0 0 1 ∷ edge 4 0 0 1 ∷ []) ++ solution 33 (edge 3 0 0 0 ∷ edge 2 0 0 1 ∷ edge 4 0 0 1 ∷ [])))
-    -- the second edge's keys before the third's; ties by document 01: the third edge's position
+    -- the second edge's keys before the third's; ties by 5.3: the third edge's position
     ∷ case (list fanBook a112 a113 96) (6 ∷ (solution 3 (edge 2 0 0 0 ∷ edge 1 0 0 1 ∷ edge 4 0 0 1 ∷ []) ++ solution 3 (edge 2 0 0 0 ∷ edge 1 0 0 1 ∷ edge 5 0 0 1 ∷ []) ++ solution 3 (edge 2 0 0 0 ∷ edge 1 0 0 1 ∷ edge 3 0 0 1 ∷ []) ++ solution 3 (edge 2 0 0 0 ∷ edge 0 0 0 1 ∷ edge 4 0 0 1 ∷ []) ++ solution 3 (edge 2 0 0 0 ∷ edge 0 0 0 1 ∷ edge 5 0 0 1 ∷ []) ++ solution 3 (edge 2 0 0 0 ∷ edge 0 0 0 1 ∷ edge 3 0 0 1 ∷ [])))
     -- the fingerprint's input has both bytes of an egress
     ∷ case (list (others (segment 1 1 (plain a110 0 258 ∷ plain a111 2 0 ∷ []) ∷ segment 1 2 (plain a110 0 3 ∷ plain a111 2 0 ∷ []) ∷ [])) a111 a110 32) (2 ∷ (solution 1 (edge 1 0 0 0 ∷ []) ++ solution 1 (edge 0 0 0 0 ∷ [])))
