@@ -40,7 +40,7 @@ position-small b a k h = omega (arith, a .crowd)
 
 -- ---- what the definition's segments hold
 
--- the entry itself is what `as_entry` reads at its offset
+-- the entry itself stands at its offset
 pub own-read : (b : List ℕ) (k i : ℕ) → i < entryCountAt b k → entryOf (segmentAt b k) i .own ≡ asEntryAt b (entryOffset b (bodyOffset b k) i)
 unfolding entryAt
 own-read b k i h = ap (λ (x : Entry). x .own) (entry-at b k i h)
@@ -57,7 +57,7 @@ module _ {A : Type 0} (f : ℕ → A) where
   map-range-at j (suc n) zero d h = ap f (sym (add-zero j))
   map-range-at j (suc n) (suc i) d h = map-range-at (j + 1) n i d (omega arith) ∙ ap f (omega arith)
 
--- peer p of it is what `peer_entry` reads at its place
+-- peer p of it stands at its place
 pub peer-read : (b : List ℕ) (k i p : ℕ) → i < entryCountAt b k → p < peerCount b (entryOffset b (bodyOffset b k) i)
     → peerOf (segmentAt b k) i p ≡ peerEntryAt b (peerOffset (entryOffset b (bodyOffset b k) i) p)
 unfolding peerOf entryAt peerOfEntryAt

@@ -4,11 +4,8 @@
 mod entries;
 mod heads;
 
-pub use entries::as_entry;
 pub use entries::entry_size;
 pub use entries::isd_asn;
-pub use entries::peer_count;
-pub use entries::peer_entry;
 pub use heads::body_length;
 pub use heads::body_offset;
 pub use heads::entry_count;
