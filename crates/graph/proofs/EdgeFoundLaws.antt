@@ -48,12 +48,9 @@ module _ (k : ℕ) (v : Vertex) (w : IsdAsn) (j : EdgeFound) where
   edge-whole p q r = ap (λ x. x ∷ []) r ∙ sym (whole-found q) ∙ p
 
 -- a vertex that is an AS
-pub from-as-end : {v : Vertex} {a : IsdAsn} {l : List Edge} (seg : Segment) (w : Vertex) → v ≡ AS a → l ≡ between seg (AS a) w → l ≡ between seg v w
-from-as-end seg w at p = p ∙ ap (λ x. between seg x w) (sym at)
-
 pub whole-at : (seg : Segment) (k : ℕ) (w : IsdAsn) (j : EdgeFound) {v : Vertex} {a : IsdAsn} → v ≡ AS a → wholeEdges k (AS a) w j ≡ between seg (AS a) (AS w)
     → wholeEdges k v w j ≡ between seg v (AS w)
-whole-at seg k w j at p = ap (λ x. wholeEdges k x w j) at ∙ from-as-end seg (AS w) at p
+whole-at seg k w j at p = ap (λ x. wholeEdges k x w j) at ∙ p ∙ ap (λ x. between seg x (AS w)) (sym at)
 
 -- ---- as the code makes them
 

@@ -1,4 +1,4 @@
--- The plan of a search: how it is made, and what the loops over last edges pass over by it.
+-- The plan of a search: how it is made, and what the loop over last edges passes over by it.
 -- Assumes nothing.
 use Prim.Native.Nat.{ℕ, zero, suc, _+_, _*_, _-_, _≤_, _<_}
 use native.Mathlib.Decide.{ℕ-discrete}
@@ -15,14 +15,16 @@ use Rattle.spec.specs.Basics.{if_then_else_}
 use Rattle.spec.specs.Book.{Segment, segments, segmentAt, segmentCount, cores}
 use Rattle.spec.specs.Edges.{isFirst}
 use Rattle.spec.specs.Records.{bit}
+use Rattle.graph.specs.declared.search.Before.{Before}
 use Rattle.graph.specs.Scan.{firstWith, hasAs}
 use Rattle.graph.specs.Prepared.{begins, arrives, Planned, Prepared}
 use Rattle.graph.specs.Pushed.{Slots, Room, Pushes}
-use Rattle.graph.specs.Search.{overFirsts, chainsWith, triplesIn}
+use Rattle.graph.specs.Search.{overFirsts, lastIn}
 use Rattle.graph.proofs.LookupScan.{first-le, first-passes}
+use Rattle.graph.proofs.EdgeReads.{none-arrives}
 use Rattle.graph.proofs.PushedTurns.{Going, going-begin, going-push, going-end, going-full}
 use Rattle.graph.proofs.SearchLaws.{over-turn, over-skip, over-end}
-use Rattle.graph.proofs.SearchTurns.{arrives-first, arrives-none, pair-none, triple-none}
+use Rattle.graph.proofs.SearchTurns.{other-at, arrives-first, arrives-none, last-edge-missing}
 
 -- ---- the plan is made from the last position down
 
@@ -111,17 +113,14 @@ module _ {A : Type 0} (f : Segment → List A) (b : List ℕ) (p : ℕ → Bool)
       ∙ ap (λ m. overFirsts f b (firstWith p k (n - k)) (m - firstWith p k (n - k))) e
       ∙ ap (λ i. overFirsts f b i (n - i)) (sym q)
 
--- ---- a loop over last edges
+-- ---- the loop over last edges
 
 -- what gives nothing in a non-core segment where no chain arrives
 abbrev Quiet : List ℕ → IsdAsn → (Segment → List (List Edge)) → Type 0
 Quiet b dst f = (i : ℕ) → cores b ≤ i → hasAs (segmentAt b i) dst ≡ false → f (segmentAt b i) ≡ []
 
-pub pairs-quiet : (b : List ℕ) (dst : IsdAsn) (e : Edge) → Quiet b dst (chainsWith b dst e)
-pairs-quiet b dst e i = pair-none b dst e i
-
-pub triples-quiet : (b : List ℕ) (dst : IsdAsn) (e f : Edge) → Quiet b dst (triplesIn b dst e f)
-triples-quiet b dst e f i = triple-none b dst e i f
+pub last-quiet : (b : List ℕ) (dst : IsdAsn) (x : Before) (e f : Edge) → Quiet b dst (lastIn b dst x e f)
+last-quiet b dst x e f i h q = last-edge-missing b dst x e f i h (sym (none-arrives (segmentAt b i) (other-at b i h) dst q (f .dst)))
 
 -- it stands past all positions or where chains may arrive, and has pushed what the positions before give
 pub record LastEdges (b : List ℕ) (dst : IsdAsn) (c n slots : ℕ) (f : Segment → List (List Edge)) (before : Slots) (k m : ℕ) (out : List ℕ) : Type 0 where

@@ -2,7 +2,7 @@
 -- Assumes nothing.
 use Prim.Native.Nat.{ℕ, _+_, _-_, _≤_, _<_}
 use native.Mathlib.Omega.{arith}
-use mathlib.Core.Path.{_≡_, refl, sym, ap, ap₂, _∙_}
+use mathlib.Core.Path.{_≡_, refl, sym, ap, ap₂, _∙_, subst}
 use mathlib.Core.Logic.{_⊎_, inl, inr}
 use mathlib.Core.Bool.{Bool, true, false, _&&_, _||_, not}
 use mathlib.Core.List.{List, [], _∷_, _++_, map, flatMap, append-nil, append-assoc}
@@ -16,6 +16,8 @@ use Rattle.spec.specs.Basics.{if_then_else_, range}
 use Rattle.spec.specs.Book.{Segment, segments, segmentAt, segmentCount, cores}
 use Rattle.spec.specs.Edges.{sameAs, sameVertex, asOf, leafAs, edgeOf, isFirst}
 use Rattle.spec.specs.Records.{bit}
+use Rattle.graph.specs.declared.search.Before.{Before}
+use Rattle.graph.specs.declared.search.Before.the-variants.{Link, One, Two}
 use Rattle.graph.specs.declared.edges.Found.{Found}
 use Rattle.graph.specs.declared.edges.Found.the-variants.{Edge as FoundEdge, Nothing}
 use Rattle.graph.specs.Lookup.{between, leavingOf, foundEdges}
@@ -23,11 +25,11 @@ use Rattle.graph.specs.Leaving.{entryCount, peerCountOf, asUp, peerUp, u
 use Rattle.graph.specs.Scan.{hasAs, coreEdgeFrom}
 use Rattle.graph.specs.FirstOfEquals.{firstAt}
 use Rattle.graph.specs.Prepared.{begins, arrives}
-use Rattle.graph.specs.Search.{isAs, endsAtAs, overFirsts, pair, triple, pairsIn, triplesIn, acrossWith, chainsWith, chainsFrom, chainsIn, foundChains}
+use Rattle.graph.specs.Search.{isAs, endsAtAs, overFirsts, pair, triple, pairsIn, triplesIn, acrossWith, chainsWith, lastIn, chainsFrom, chainsIn, foundChains}
 use Rattle.spec.proofs.Lists.{flatMap-append}
 use Rattle.spec.proofs.Membership.{not-both}
 use Rattle.graph.proofs.LookupLaws.{core-leaving}
-use Rattle.graph.proofs.EdgeReads.{other-leaf, none-arrives, none-leaves, empty-leaving}
+use Rattle.graph.proofs.EdgeReads.{other-leaf, none-leaves, empty-leaving}
 use Rattle.graph.proofs.SearchLists.{range-turn}
 use Rattle.graph.proofs.SearchLaws.{over-split, over-none, from-arrived, from-onward}
 
@@ -184,16 +186,13 @@ module _ (b : List ℕ) (dst : IsdAsn) (e : Edge) (k : ℕ) where
   unfolding triplesIn
   triples-other f h = ap (λ t. if t then [] else map (triple b dst e f) (between (segmentAt b k) (f .dst) (AS dst))) (other-at b k h)
 
-  pub triple-found : (f : Edge) {g : Edge} → cores b ≤ k → (g ∷ []) ≡ between (segmentAt b k) (f .dst) (AS dst)
+  triple-found : (f : Edge) {g : Edge} → cores b ≤ k → (g ∷ []) ≡ between (segmentAt b k) (f .dst) (AS dst)
       → triplesIn b dst e f (segmentAt b k) ≡ (e ∷ f ∷ g ∷ []) ∷ []
   unfolding triple
   triple-found f h q = triples-other f h ∙ sym (ap (map (triple b dst e f)) q)
 
-  pub triple-empty : (f : Edge) → cores b ≤ k → [] ≡ between (segmentAt b k) (f .dst) (AS dst) → triplesIn b dst e f (segmentAt b k) ≡ []
+  triple-empty : (f : Edge) → cores b ≤ k → [] ≡ between (segmentAt b k) (f .dst) (AS dst) → triplesIn b dst e f (segmentAt b k) ≡ []
   triple-empty f h q = triples-other f h ∙ sym (ap (map (triple b dst e f)) q)
-
-  pub triple-none : (f : Edge) → cores b ≤ k → hasAs (segmentAt b k) dst ≡ false → triplesIn b dst e f (segmentAt b k) ≡ []
-  triple-none f h q = triple-empty f h (sym (none-arrives (segmentAt b k) (other-at b k h) dst q (f .dst)))
 
   pairs-other : cores b ≤ k → chainsWith b dst e (segmentAt b k) ≡ map (pair b dst e) (between (segmentAt b k) (e .dst) (AS dst))
   unfolding chainsWith pairsIn
@@ -201,15 +200,12 @@ module _ (b : List ℕ) (dst : IsdAsn) (e : Edge) (k : ℕ) where
       ap (λ t. if t then (if e .core then [] else flatMap (acrossWith b dst e) (leavingOf (e .dst) (segmentAt b k)))
       else map (pair b dst e) (between (segmentAt b k) (e .dst) (AS dst))) (other-at b k h)
 
-  pub pair-found : {f : Edge} → cores b ≤ k → (f ∷ []) ≡ between (segmentAt b k) (e .dst) (AS dst) → chainsWith b dst e (segmentAt b k) ≡ (e ∷ f ∷ []) ∷ []
+  pair-found : {f : Edge} → cores b ≤ k → (f ∷ []) ≡ between (segmentAt b k) (e .dst) (AS dst) → chainsWith b dst e (segmentAt b k) ≡ (e ∷ f ∷ []) ∷ []
   unfolding pair
   pair-found h q = pairs-other h ∙ sym (ap (map (pair b dst e)) q)
 
-  pub pair-empty : cores b ≤ k → [] ≡ between (segmentAt b k) (e .dst) (AS dst) → chainsWith b dst e (segmentAt b k) ≡ []
+  pair-empty : cores b ≤ k → [] ≡ between (segmentAt b k) (e .dst) (AS dst) → chainsWith b dst e (segmentAt b k) ≡ []
   pair-empty h q = pairs-other h ∙ sym (ap (map (pair b dst e)) q)
-
-  pub pair-none : cores b ≤ k → hasAs (segmentAt b k) dst ≡ false → chainsWith b dst e (segmentAt b k) ≡ []
-  pair-none h q = pair-empty h (sym (none-arrives (segmentAt b k) (other-at b k h) dst q (e .dst)))
 
   across-core : k < cores b → e .core ≡ false → chainsWith b dst e (segmentAt b k) ≡ flatMap (acrossWith b dst e) (leavingOf (e .dst) (segmentAt b k))
   unfolding chainsWith
@@ -228,6 +224,44 @@ module _ (b : List ℕ) (dst : IsdAsn) (e : Edge) (k : ℕ) where
       → chainsWith b dst e (segmentAt b k) ≡ []
   unfolding flatMap
   across-nothing r h c p q = across-core h c ∙ ap (flatMap (acrossWith b dst e)) (found-nothing r _ p q)
+
+-- ---- a last edge, by what stands before it
+
+-- where it is told not to be a link it is the other
+abbrev AtLink : Before → Type 0
+AtLink Link = Unit
+AtLink One = ⊥
+AtLink Two = ⊥
+
+pub not-link : {A : Type 0} {x y : Before} → (AtLink y → ⊥) → x ≡ y → (x ≡ Link) ⊎ A → A
+not-link n p (inl q) = absurd (n (subst AtLink (sym q ∙ p) tt))
+not-link n p (inr h) = h
+
+-- the chain that a last edge ends
+abbrev ended : Before → Edge → Edge → Edge → List Edge
+ended Link e f g = f ∷ g ∷ []
+ended One e f g = f ∷ g ∷ []
+ended Two e f g = e ∷ f ∷ g ∷ []
+
+module _ (b : List ℕ) (dst : IsdAsn) (x : Before) (e f : Edge) (k : ℕ) (h : cores b ≤ k) where
+  pub last-edge-found : {g : Edge} (y : Before) → x ≡ y → (g ∷ []) ≡ between (segmentAt b k) (f .dst) (AS dst)
+      → lastIn b dst x e f (segmentAt b k) ≡ ended y e f g ∷ []
+  unfolding lastIn
+  last-edge-found {g} y p q = ap (λ z. lastIn b dst z e f (segmentAt b k)) p ∙ go y
+    where
+      go : (y : Before) → lastIn b dst y e f (segmentAt b k) ≡ ended y e f g ∷ []
+      go Link = pair-found b dst f k h q
+      go One = pair-found b dst f k h q
+      go Two = triple-found b dst e k f h q
+
+  pub last-edge-missing : [] ≡ between (segmentAt b k) (f .dst) (AS dst) → lastIn b dst x e f (segmentAt b k) ≡ []
+  unfolding lastIn
+  last-edge-missing q = go x
+    where
+      go : (y : Before) → lastIn b dst y e f (segmentAt b k) ≡ []
+      go Link = pair-empty b dst f k h q
+      go One = pair-empty b dst f k h q
+      go Two = triple-empty b dst e k f h q
 
 -- ---- core and non-core positions apart
 
@@ -255,8 +289,8 @@ module _ (b : List ℕ) (dst : IsdAsn) (e : Edge) (t : Bool) where
   across-arrived f p q = ap (λ s. if s then (e ∷ f ∷ []) ∷ [] else overFirsts (triplesIn b dst e f) b 0 (segmentCount b)) (sym p ∙ q)
 
   pub across-onward : (f : Edge) (c n : ℕ) → c ≡ cores b → n ≡ segmentCount b → c ≤ n → t ≡ sameVertex (f .dst) (AS dst) → t ≡ false
-      → acrossWith b dst e f ≡ overFirsts (triplesIn b dst e f) b c (n - c)
-  unfolding acrossWith triplesIn
+      → acrossWith b dst e f ≡ overFirsts (lastIn b dst Two e f) b c (n - c)
+  unfolding acrossWith triplesIn lastIn
   across-onward f c n ec en h p q =
       ap (λ s. if s then pair b dst e f ∷ [] else overFirsts (triplesIn b dst e f) b 0 (segmentCount b)) (sym p ∙ q)
       ∙ skip-cores (triplesIn b dst e f) b c n en h
@@ -269,8 +303,8 @@ module _ (b : List ℕ) (dst : IsdAsn) (e : Edge) (t : Bool) where
 
   module _ (c n : ℕ) (ec : c ≡ cores b) (en : n ≡ segmentCount b) (h : c ≤ n) (p : t ≡ sameVertex (e .dst) (AS dst)) (q : t ≡ false) where
     -- after a core edge no core edge
-    pub chains-core : e .core ≡ true → chainsFrom b dst e ≡ overFirsts (chainsWith b dst e) b c (n - c)
-    unfolding chainsWith
+    pub chains-core : e .core ≡ true → chainsFrom b dst e ≡ overFirsts (lastIn b dst One e e) b c (n - c)
+    unfolding chainsWith lastIn
     chains-core k =
         from-onward b dst e (sym p ∙ q)
         ∙ skip-cores (chainsWith b dst e) b c n en h
@@ -279,8 +313,8 @@ module _ (b : List ℕ) (dst : IsdAsn) (e : Edge) (t : Bool) where
         (core-at b j (omega arith)) k)
 
     -- after a link no core edge
-    pub chains-link : {l p : IsdAsn} {i o : ℕ} → e .dst ≡ Peering l i p o → chainsFrom b dst e ≡ overFirsts (chainsWith b dst e) b c (n - c)
-    unfolding chainsWith flatMap
+    pub chains-link : {l p : IsdAsn} {i o : ℕ} → e .dst ≡ Peering l i p o → chainsFrom b dst e ≡ overFirsts (lastIn b dst Link e e) b c (n - c)
+    unfolding chainsWith flatMap lastIn
     chains-link at =
         from-onward b dst e (sym p ∙ q)
         ∙ skip-cores (chainsWith b dst e) b c n en h
@@ -293,7 +327,8 @@ module _ (b : List ℕ) (dst : IsdAsn) (e : Edge) (t : Bool) where
         either true = refl
         either false = refl
 
-    pub chains-other : chainsFrom b dst e ≡ overFirsts (chainsWith b dst e) b 0 c ++ overFirsts (chainsWith b dst e) b c (n - c)
+    pub chains-other : chainsFrom b dst e ≡ overFirsts (chainsWith b dst e) b 0 c ++ overFirsts (lastIn b dst One e e) b c (n - c)
+    unfolding lastIn
     chains-other = from-onward b dst e (sym p ∙ q) ∙ over-cores (chainsWith b dst e) b c n en h
 
 -- ---- the edges of one segment that leave the source

@@ -12,6 +12,8 @@ use Rattle.spec.specs.Basics.{if_then_else_, filter}
 use Rattle.spec.specs.Book.{Segment, segments, segmentAt, segmentCount}
 use Rattle.spec.specs.Edges.{sameAs, sameVertex, isFirst, storedEdges}
 use Rattle.spec.specs.Chains.{allowedKinds, beginning, walks}
+use Rattle.graph.specs.declared.search.Before.{Before}
+use Rattle.graph.specs.declared.search.Before.the-variants.{Link, One, Two}
 use Rattle.graph.specs.Lookup.{between, leavingOf}
 use Rattle.graph.specs.Leaving.{leavingIn}
 
@@ -59,6 +61,12 @@ module _ (b : List ℕ) (dst : IsdAsn) where
   chainsWith e seg =
       let across : List (List Edge) = flatMap (acrossWith e) (leavingOf (e .dst) seg) in
       if seg .core then (if e .core then [] else across) else pairsIn e seg
+
+  -- what a segment adds after one edge, f, or after two
+  unfoldable pub lastIn : Before → Edge → Edge → Segment → List (List Edge)
+  lastIn Link e f = chainsWith f
+  lastIn One e f = chainsWith f
+  lastIn Two e f = triplesIn e f
 
   -- the chains that begin with an edge of a segment that leaves the source
   unfoldable pub chainsIn : IsdAsn → Segment → List (List Edge)

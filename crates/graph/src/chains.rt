@@ -99,7 +99,7 @@ fn one_further(reached: Reached, e: Edge) -> Reached
     Reached {
         at: to,
         cost: reached.cost + slots::weight(e),
-        kinds: reached.kinds * 2 + slots::bit(e.core),
+        kinds: reached.kinds * 2 + records::bit(e.core),
     }
 }
 

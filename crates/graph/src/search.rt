@@ -1,6 +1,7 @@
 // The search for chains: each chain found is pushed into the lent slots. Every loop stops once the count
 // is past the slots.
 ghost use mathlib.Core.Path.{_≡_};
+ghost use mathlib.Core.Logic.{_⊎_};
 ghost use mathlib.Core.Bool.{true, false};
 ghost use mathlib.Core.List.{flatMap};
 ghost use Prim.Native.Nat.{_-_, _≤_, _<_};
@@ -8,14 +9,17 @@ ghost use Rattle.spec.specs.declared.Vertex.the-variants.{AS};
 ghost use Rattle.spec.specs.Limits.{maxSegments};
 ghost use Rattle.spec.specs.Basics.{if_then_else_, range};
 ghost use Rattle.spec.specs.Book.{segmentAt, segmentCount, cores};
-ghost use Rattle.graph.specs.Lookup.{foundEdges};
+ghost use Rattle.graph.specs.declared.search.Before.the-variants.{Link};
+ghost use Rattle.graph.specs.Lookup.{between, foundEdges};
 ghost use Rattle.graph.specs.Leaving.{entryCount, peerCountOf, peerUp, upsAt};
-ghost use Rattle.graph.specs.Search.{overFirsts, endsAtAs, chainsFrom, triplesIn, acrossWith, chainsWith, chainsIn, foundChains};
+ghost use Rattle.graph.specs.Search.{overFirsts, endsAtAs, chainsFrom, acrossWith, chainsWith, lastIn, chainsIn, foundChains};
+ghost use Rattle.graph.specs.EdgeFound.{wholeEdges};
 ghost use Rattle.graph.specs.Pushed.{Room, Pushes};
 ghost use Rattle.graph.specs.Ready.{Ready};
 ghost use Rattle.graph.specs.FirstOfEquals.{firstAt};
 ghost use Rattle.graph.specs.Prepared.{begins, arrives, Planned, Prepared};
 use crate::edges;
+use crate::edges::EdgeFound;
 use crate::edges::Found;
 use crate::first_of_equals;
 use crate::opened;
@@ -29,7 +33,7 @@ use spec::Limits;
 use spec::Vertex;
 
 // What is worked out before the search: for each position 1 where chains may begin, else 0, and then, for each and for
-// the one past the last, the next position from there on where chains may arrive, by which the loops over last edges go.
+// the one past the last, the next position from there on where chains may arrive, by which the loop over last edges goes.
 const NEXT: usize = Limits::SEGMENTS;
 
 const PLAN: usize = 2 * Limits::SEGMENTS + 1;
@@ -44,14 +48,45 @@ struct Query {
     slots: usize,
 }
 
-// ---- a third edge
+// What stands before a last edge: one that ends at a peering link, one that ends at an AS, or two, of which the second
+// ends at an AS.
+enum Before {
+    Link,
+    One,
+    Two,
+}
 
-// Two edges, of which the second ends at the AS a, and one of the non-core segment at k that arrives.
-fn triple_in(
+// ---- a last edge
+
+// The stored edge of a non-core segment from a vertex to an AS. The vertex is told to be a link, or else the AS a.
+fn edge_from(
+    book: &[u8],
+    table: &[u16; PLACES],
+    k: u8,
+    before: Before,
+    v: Vertex,
+    a: IsdAsn,
+    w: IsdAsn,
+) -> EdgeFound
+    requires { ⌜ Ready (now book) (now table) ⌝ }
+    requires { ⌜ (cores (now book) ≤ k) × (k < segmentCount (now book)) ⌝ }
+    requires { ⌜ (before ≡ Link) ⊎ (v ≡ AS a) ⌝ }
+    ensures { λ r. ⌜ wholeEdges k v w r ≡ between (segmentAt (now (book .entry)) k) v (AS w) ⌝ }
+{
+    match before {
+        Before::Link => edges::edge_to_as(book, table, k, v, w),
+        Before::One => edges::edge_between_ases(book, table, k, a, w),
+        Before::Two => edges::edge_between_ases(book, table, k, a, w),
+    }
+}
+
+// The edge f, or e and f, and one of the non-core segment at k that arrives.
+fn last_edge_in(
     book: &[u8],
     table: &[u16; PLACES],
     q: Query,
     k: u8,
+    before: Before,
     e: Edge,
     f: Edge,
     a: IsdAsn,
@@ -60,30 +95,31 @@ fn triple_in(
 ) -> usize
     requires { ⌜ Ready (now book) (now table) ⌝ }
     requires { ⌜ (cores (now book) ≤ k) × (k < segmentCount (now book)) ⌝ }
-    requires { ⌜ f .dst ≡ AS a ⌝ }
+    requires { ⌜ (before ≡ Link) ⊎ (f .dst ≡ AS a) ⌝ }
     requires { ⌜ Room (q .slots) n (now out) ⌝ }
-    ensures { λ r. ⌜ Pushes (q .slots) (n, now (out .entry)) (r, now (out .exit)) (triplesIn (now (book .entry)) (q .dst) e f (segmentAt (now (book .entry)) k)) ⌝ }
+    ensures { λ r. ⌜ Pushes (q .slots) (n, now (out .entry)) (r, now (out .exit)) (lastIn (now (book .entry)) (q .dst) before e f (segmentAt (now (book .entry)) k)) ⌝ }
 {
+    let from = f.dst;
     let dst = q.dst;
-    let j = edges::edge_between_ases(book, table, k, a, dst);
+    let j = edge_from(book, table, k, before, from, a, dst);
     if !j.found {
         return n;
     }
-    slots::push_three(
-        out,
-        q.slots,
-        n,
-        e,
-        f,
-        edges::whole_edge(k, Vertex::AS(a), dst, j),
-    )
+    let g = edges::whole_edge(k, from, dst, j);
+    match before {
+        Before::Link => slots::push_two(out, q.slots, n, f, g),
+        Before::One => slots::push_two(out, q.slots, n, f, g),
+        Before::Two => slots::push_three(out, q.slots, n, e, f, g),
+    }
 }
 
-fn triples(
+// The same for all. Where f ends is told, so that no turn asks it again: at a link, or else at the AS a.
+fn last_edges(
     book: &[u8],
     table: &[u16; PLACES],
     plan: &[u8; PLAN],
     q: Query,
+    before: Before,
     e: Edge,
     f: Edge,
     a: IsdAsn,
@@ -91,9 +127,9 @@ fn triples(
     start: usize,
 ) -> usize
     requires { ⌜ Prepared (now book) (now table) (now plan) (q .src) (q .dst) (q .cores) (q .count) ⌝ }
-    requires { ⌜ f .dst ≡ AS a ⌝ }
+    requires { ⌜ (before ≡ Link) ⊎ (f .dst ≡ AS a) ⌝ }
     requires { ⌜ Room (q .slots) start (now out) ⌝ }
-    ensures { λ r. ⌜ Pushes (q .slots) (start, now (out .entry)) (r, now (out .exit)) (overFirsts (triplesIn (now (book .entry)) (q .dst) e f) (now (book .entry)) (q .cores) (q .count - q .cores)) ⌝ }
+    ensures { λ r. ⌜ Pushes (q .slots) (start, now (out .entry)) (r, now (out .exit)) (overFirsts (lastIn (now (book .entry)) (q .dst) before e f) (now (book .entry)) (q .cores) (q .count - q .cores)) ⌝ }
 {
     let mut n = start;
     let mut k = plan[NEXT + (q.cores as usize)];
@@ -101,7 +137,7 @@ fn triples(
         if q.slots < n {
             return n;
         }
-        n = triple_in(book, table, q, k, e, f, a, out, n);
+        n = last_edge_in(book, table, q, k, before, e, f, a, out, n);
         k = plan[NEXT + (k as usize + 1)];
     }
     n
@@ -133,7 +169,7 @@ fn across_with(
     let Vertex::AS(a) = to else {
         return n;
     };
-    triples(book, table, plan, q, e, f, a, out, n)
+    last_edges(book, table, plan, q, Before::Two, e, f, a, out, n)
 }
 
 // The same for the edge of the core segment at k that follows.
@@ -189,114 +225,6 @@ fn across(
     n
 }
 
-// An edge that ends at the AS a, and one of the non-core segment at k that arrives.
-fn as_pair_in(
-    book: &[u8],
-    table: &[u16; PLACES],
-    q: Query,
-    k: u8,
-    e: Edge,
-    a: IsdAsn,
-    out: &mut [u8],
-    n: usize,
-) -> usize
-    requires { ⌜ Ready (now book) (now table) ⌝ }
-    requires { ⌜ (cores (now book) ≤ k) × (k < segmentCount (now book)) ⌝ }
-    requires { ⌜ e .dst ≡ AS a ⌝ }
-    requires { ⌜ Room (q .slots) n (now out) ⌝ }
-    ensures { λ r. ⌜ Pushes (q .slots) (n, now (out .entry)) (r, now (out .exit)) (chainsWith (now (book .entry)) (q .dst) e (segmentAt (now (book .entry)) k)) ⌝ }
-{
-    let dst = q.dst;
-    let j = edges::edge_between_ases(book, table, k, a, dst);
-    if !j.found {
-        return n;
-    }
-    slots::push_two(
-        out,
-        q.slots,
-        n,
-        e,
-        edges::whole_edge(k, Vertex::AS(a), dst, j),
-    )
-}
-
-fn as_pairs(
-    book: &[u8],
-    table: &[u16; PLACES],
-    plan: &[u8; PLAN],
-    q: Query,
-    e: Edge,
-    a: IsdAsn,
-    out: &mut [u8],
-    start: usize,
-) -> usize
-    requires { ⌜ Prepared (now book) (now table) (now plan) (q .src) (q .dst) (q .cores) (q .count) ⌝ }
-    requires { ⌜ e .dst ≡ AS a ⌝ }
-    requires { ⌜ Room (q .slots) start (now out) ⌝ }
-    ensures { λ r. ⌜ Pushes (q .slots) (start, now (out .entry)) (r, now (out .exit)) (overFirsts (chainsWith (now (book .entry)) (q .dst) e) (now (book .entry)) (q .cores) (q .count - q .cores)) ⌝ }
-{
-    let mut n = start;
-    let mut k = plan[NEXT + (q.cores as usize)];
-    while k < q.count {
-        if q.slots < n {
-            return n;
-        }
-        n = as_pair_in(book, table, q, k, e, a, out, n);
-        k = plan[NEXT + (k as usize + 1)];
-    }
-    n
-}
-
-// An edge that ends anywhere, and one of the non-core segment at k that arrives.
-fn link_pair_in(
-    book: &[u8],
-    table: &[u16; PLACES],
-    q: Query,
-    k: u8,
-    e: Edge,
-    out: &mut [u8],
-    n: usize,
-) -> usize
-    requires { ⌜ Ready (now book) (now table) ⌝ }
-    requires { ⌜ (cores (now book) ≤ k) × (k < segmentCount (now book)) ⌝ }
-    requires { ⌜ Room (q .slots) n (now out) ⌝ }
-    ensures { λ r. ⌜ Pushes (q .slots) (n, now (out .entry)) (r, now (out .exit)) (chainsWith (now (book .entry)) (q .dst) e (segmentAt (now (book .entry)) k)) ⌝ }
-{
-    let from = e.dst;
-    let dst = q.dst;
-    let j = edges::edge_to_as(book, table, k, from, dst);
-    if !j.found {
-        return n;
-    }
-    slots::push_two(out, q.slots, n, e, edges::whole_edge(k, from, dst, j))
-}
-
-// The same for all, of an edge that ends at a peering end.
-fn link_pairs(
-    book: &[u8],
-    table: &[u16; PLACES],
-    plan: &[u8; PLAN],
-    q: Query,
-    e: Edge,
-    out: &mut [u8],
-    start: usize,
-) -> usize
-    requires { ⌜ Prepared (now book) (now table) (now plan) (q .src) (q .dst) (q .cores) (q .count) ⌝ }
-    requires { ⌜ Room (q .slots) start (now out) ⌝ }
-    ensures { λ r. ⌜ Pushes (q .slots) (start, now (out .entry)) (r, now (out .exit)) (overFirsts (chainsWith (now (book .entry)) (q .dst) e) (now (book .entry)) (q .cores) (q .count - q .cores)) ⌝ }
-{
-    let mut n = start;
-    let mut k = plan[NEXT + (q.cores as usize)];
-    while k < q.count {
-        if q.slots < n {
-            return n;
-        }
-        n = link_pair_in(book, table, q, k, e, out, n);
-        k = plan[NEXT + (k as usize + 1)];
-    }
-    n
-}
-
 // ---- a first edge
 
 // The chains that begin with an edge.
@@ -319,13 +247,13 @@ fn chains_from(
         return slots::push_one(out, q.slots, n, e);
     }
     let Vertex::AS(a) = to else {
-        return link_pairs(book, table, plan, q, e, out, n);
+        return last_edges(book, table, plan, q, Before::Link, e, e, dst, out, n);
     };
     if e.core {
-        return as_pairs(book, table, plan, q, e, a, out, n);
+        return last_edges(book, table, plan, q, Before::One, e, e, a, out, n);
     }
     let m = across(book, table, plan, q, e, out, n);
-    as_pairs(book, table, plan, q, e, a, out, m)
+    last_edges(book, table, plan, q, Before::One, e, e, a, out, m)
 }
 
 // The same for an edge that may not be there.
@@ -516,7 +444,7 @@ fn plan_of(book: &[u8], table: &[u16; PLACES], q: Query) -> [u8; PLAN]
         k -= 1;
         let ends = begins_and_arrives(book, table, q, k, firsts[k as usize]);
         next = next_at(ends.dst, k, next);
-        plan[k as usize] = slots::bit(ends.src);
+        plan[k as usize] = records::bit(ends.src);
         plan[NEXT + (k as usize)] = next;
     }
     plan

@@ -6,19 +6,13 @@ ghost use Prim.Native.Nat.{_+_, _*_, _≤_};
 ghost use lib.ListN.{length, take, drop};
 ghost use Rattle.spec.specs.Limits.{solutionSize};
 ghost use Rattle.spec.specs.Order.{solutionEdge};
-ghost use Rattle.spec.specs.Records.{bit, noEdge};
+ghost use Rattle.spec.specs.Records.{noEdge};
 ghost use Rattle.output.specs.Write.{written};
 ghost use Rattle.records.specs.Octets.{recordOctets};
 ghost use Rattle.graph.specs.Pushed.{pushRecord, Room, Pushes};
 use spec::Edge;
 use spec::Solution;
 use spec::SolutionEdge;
-
-pub(crate) fn bit(b: bool) -> u8
-    ensures { λ r. ⌜ r ≡ bit b ⌝ }
-{
-    if b { 1 } else { 0 }
-}
 
 pub(crate) fn weight(e: Edge) -> u16
     ensures { λ r. ⌜ (r ≡ e .weight) × (r ≤ 255) ⌝ }

@@ -8,11 +8,13 @@ use lib.ListN.{length, getD}
 use Rattle.spec.specs.declared.Edge.{Edge}
 use Rattle.spec.specs.declared.InfoField.{InfoField}
 use Rattle.spec.specs.declared.Solution.{Solution}
+use Rattle.spec.specs.declared.SolutionEdge.{SolutionEdge}
 use Rattle.spec.specs.declared.Path.{Path}
 use Rattle.spec.specs.Limits.{maxEdges, solutionSize}
 use Rattle.spec.specs.Basics.{range, padded}
-use Rattle.spec.specs.Octets.{octets2, octets4, octets8}
-use Rattle.spec.specs.Records.{bit, edgeOctets, edgeAt, noEdge, solutionOf, solutionOctets, infoOctets, asOctets, pathHeadOctets}
+use Rattle.spec.specs.Octets.{Bytes, octets2, octets4, octets8}
+use Rattle.spec.specs.Records.{bit, edgeOctets, edgeAt, edgeOffset, noEdge, recordEdge, solutionIn, solutionOf, solutionOctets, infoOctets, asOctets, pathHeadOctets}
+use Rattle.spec.proofs.BookLaws.{be16-lt}
 use Rattle.output.specs.Write.{written}
 use Rattle.output.proofs.Writing.{written-pair}
 use Rattle.records.specs.Octets.{edgeBytes, recordOctets}
@@ -34,6 +36,33 @@ record-is s x y z h p q r =
 pub record-length : (s : Solution) → length (recordOctets s) ≡ solutionSize
 unfolding recordOctets edgeBytes edgeOctets octets2 range flatMap
 record-length s = refl
+
+-- the solution that a record says, from its parts
+pub solution-is : (r : List ℕ) {x n : ℕ} {e f g : SolutionEdge} → x ≡ solutionIn r .cost → n ≡ solutionIn r .count → e ≡ recordEdge r 0 → f ≡ recordEdge r 1 → g ≡ recordEdge r 2
+    → record { cost = x; count = n; edges = e ∷ f ∷ g ∷ [] } ≡ solutionIn r
+unfolding solutionIn range
+solution-is r {e = e} {f = f} {g = g} p q a b c =
+    ap₂ (λ x n. record { cost = x; count = n; edges = e ∷ f ∷ g ∷ [] }) p q
+    ∙ ap₂ (λ u v. record { cost = solutionIn r .cost; count = solutionIn r .count; edges = u ∷ v ∷ g ∷ [] }) a b
+    ∙ ap (λ w. record { cost = solutionIn r .cost; count = solutionIn r .count; edges = recordEdge r 0 ∷ recordEdge r 1 ∷ w ∷ [] }) c
+
+-- a record of bytes says numbers that fit in its fields
+pub record Within (e : SolutionEdge) : Type 0 where
+  pub position : e .position < 2 ^ 8
+  pub shortcut : e .shortcut < 2 ^ 8
+  pub peer : e .peer < 2 ^ 8
+
+pub edge-within : (r : List ℕ) → Bytes r → (k : ℕ) → Within (recordEdge r k)
+unfolding recordEdge edgeAt
+edge-within r b k = record { position = b (edgeOffset k); shortcut = b (edgeOffset k + 1); peer = b (edgeOffset k + 2) }
+
+pub cost-within : (r : List ℕ) → Bytes r → solutionIn r .cost < 2 ^ 16
+unfolding solutionIn
+cost-within r b = be16-lt r b 0
+
+pub count-within : (r : List ℕ) → Bytes r → solutionIn r .count < 2 ^ 8
+unfolding solutionIn
+count-within r b = b 2
 
 -- the record of a chain
 pub record-of : (c : List Edge) → length c ≤ maxEdges → recordOctets (solutionOf c) ≡ solutionOctets c

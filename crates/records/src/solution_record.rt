@@ -1,6 +1,7 @@
 // The record of a solution.
 ghost use mathlib.Core.Path.{_≡_};
-ghost use Prim.Native.Nat.{_≤_};
+ghost use Prim.Native.Nat.{_≤_, _<_};
+ghost use Rattle.spec.specs.Limits.{maxEdges};
 ghost use Rattle.spec.specs.Records.{bit, recordEdge, solutionIn};
 ghost use Rattle.records.specs.Octets.{recordOctets};
 use spec::Solution;
@@ -32,7 +33,32 @@ pub fn edge(given: &[u8], k: u8) -> SolutionEdge
     }
 }
 
-pub(crate) fn bit(b: bool) -> u8
+// The same, of a record whose bytes are all there.
+fn edge_within(given: &[u8; Solution::SIZE], k: usize) -> SolutionEdge
+    requires { ⌜ k < maxEdges ⌝ }
+    ensures { λ r. ⌜ r ≡ recordEdge (now (given .entry)) k ⌝ }
+{
+    let at = Solution::HEAD + SolutionEdge::SIZE * k;
+    SolutionEdge {
+        position: given[at],
+        shortcut: given[at + SolutionEdge::SHORTCUT],
+        peer: given[at + SolutionEdge::PEER],
+        construction: given[at + SolutionEdge::DIRECTION] == 1,
+    }
+}
+
+// All that a record says.
+pub fn solution(given: &[u8; Solution::SIZE]) -> Solution
+    ensures { λ r. ⌜ r ≡ solutionIn (now (given .entry)) ⌝ }
+{
+    let e = edge_within(given, 0);
+    let f = edge_within(given, 1);
+    let g = edge_within(given, 2);
+    Solution::new(cost(given), edge_count(given), [e, f, g])
+}
+
+// A direction or a flag as a number.
+pub fn bit(b: bool) -> u8
     ensures { λ r. ⌜ (r ≡ bit b) × (r ≤ 1) ⌝ }
 {
     if b { 1 } else { 0 }

@@ -14,11 +14,11 @@ mul-t6 : tie.Need-mul-t6
 mul-t6 c = omega (arith, c .before .before .before .pre .kinds)
 
 add-t8 : tie.Need-add-t8
-add-t8 c = omega (arith, kinds-next _ _ (c .before .before .before .before .pre .kinds) (c .bit .ensures))
+add-t8 c = omega (arith, kinds-next _ _ (c .before .before .before .before .pre .kinds) (c .bit .ensures .0))
 
 returns : tie.Need-returns
 unfolding oneFurther
-returns c = let w = c .before .before .before .weight .ensures in let b = c .bit .ensures in (cc, omega (arith, w .1))
+returns c = let w = c .before .before .before .weight .ensures in let b = c .bit .ensures .0 in (cc, omega (arith, w .1))
 
 pub one-further-spec : {M : Type 1} → statement M
 one-further-spec =

@@ -34,7 +34,7 @@ loop-again c =
     let ends = c .before .before .begins-and-arrives .ensures in
     let few = c .before .before .before .before .before .before .before .pre .1 .0 .1 in
     let next = next-turn _ _ _ (l .k) (omega arith) (omega arith) (ends .1) (l .inv .2) (c .before .next-at .ensures) in
-    (omega arith, simp length-set (l .inv .1), next, plan-turn _ _ _ _ few (l .plan) (l .inv .1) (l .k) (omega arith) (omega arith) (ends .0) (c .bit .ensures) next (l .inv .3))
+    (omega arith, simp length-set (l .inv .1), next, plan-turn _ _ _ _ few (l .plan) (l .inv .1) (l .k) (omega arith) (omega arith) (ends .0) (c .bit .ensures .0) next (l .inv .3))
 
 returns : tie.Need-returns Inv-loop μ-loop
 returns c = plan-all (c .before .loop .inv .3) (omega arith)
