@@ -1,11 +1,13 @@
-# make lib        proves crate combinator and writes build/libcombinator.a
-# make run        prints the list of the worked example
+# make run        prints the list of the worked example, by a program compiled without its proofs where no proved one is there
+# make prove      proves every crate, runs every program, and leaves them in target/bin
+# make lib        proves crate combinator and writes build/libcombinator.a and the shared library
+# make shared     the shared library alone, of the archive that is there
 # make test       the gate
 # make compare    the library against the Rust, on generated books (oracle/README.md): COUNT=24000 SEED=1
 # make bench      times of the library and of the Rust, on the same books
 # make scale      time against the size of a book
 # make fuzz       damaged books, records and lengths: SECONDS=30 SEED=1
-# make install    PREFIX=/usr/local DESTDIR= PROGRAM_PREFIX=
+# make install    PREFIX=/usr/local DESTDIR= PROGRAM_PREFIX=combinator-
 # make uninstall  with the same settings
 
 VERSION = 0.1.0
@@ -17,8 +19,8 @@ INCLUDEDIR = $(PREFIX)/include
 MANDIR = $(PREFIX)/share/man
 # Programs stand beside each other here, with links in BINDIR: `book` looks for `list` beside it.
 PACKAGEDIR = $(LIBDIR)/combinator
-# Goes before the names of programs and of their manual pages, as in combinator-list.
-PROGRAM_PREFIX =
+# Goes before the names of programs and of their manual pages, as in combinator-list; empty leaves `list` and `book`.
+PROGRAM_PREFIX = combinator-
 
 SECONDS = 30
 COUNT = 24000
@@ -36,24 +38,49 @@ DRIVER = main batch replay fuzz bench scale stack build common model
 PROGRAMS = target/bin/list $(wildcard tools/book)
 MODULES = $(wildcard tools/booktext/*.py)
 PAGES = $(wildcard man/*.[1-8])
+HEADERS = $(wildcard include/*.h)
+# The module by which `book` calls the library: beside it.
+PYTHON = $(wildcard bindings/python/combinator.py)
 
-.PHONY: lib run test compare bench scale fuzz install uninstall clean FORCE
+.PHONY: lib shared run prove test compare bench scale fuzz install uninstall clean FORCE
 .SECONDARY:
 
 lib:
-	rt staticlib combinator
-	mkdir -p build
-	tools/align target/staticlib/libcombinator.a build/libcombinator.a
+	@tools/progress rt staticlib combinator
+	@tools/align target/staticlib/libcombinator.a build/libcombinator.a
+	@$(MAKE) -s shared
+
+# The whole archive, with the header's functions for others to link; without the compiler's start files, which have writable data.
+MAJOR = $(firstword $(subst ., ,$(VERSION)))
+SONAME = libcombinator.so.$(MAJOR)
+SHARED = libcombinator.so.$(VERSION)
+shared: build/$(SHARED)
+build/$(SHARED): build/libcombinator.a include/combinator.h tools/exports Makefile
+	tools/exports --map > build/exports.map
+	$(CC) -shared -nostartfiles -Wl,-soname,$(SONAME) -Wl,--version-script=build/exports.map -Wl,-z,defs,-z,now,-z,relro,-z,text,-z,noexecstack \
+	    -Wl,--whole-archive $< -Wl,--no-whole-archive -o $@
+	ln -sf $(SHARED) build/$(SONAME)
+	ln -sf $(SONAME) build/libcombinator.so
 
 # Only where they are missing; `make lib` and `rt check list` build them anew.
 build/libcombinator.a:
 	$(MAKE) lib
 target/bin/list:
-	rt check list
+	@tools/progress rt check list
+
+# The proved program, or one compiled without its proofs, in seconds, which is said each time.
+LIST = $(firstword $(wildcard target/bin/list) build/unproved/list)
+build/unproved/list: $(wildcard crates/*/src/*.rt)
+	@mkdir -p $(@D)
+	@tools/unproved --program list $@
 
 # Source 0001ff0000000111, destination 0001ff0000000110, book.
-run: target/bin/list
-	@{ printf '\000\001\377\000\000\000\001\021\000\001\377\000\000\000\001\020'; cat examples/worked.book; } | target/bin/list
+run: $(LIST)
+	@$(if $(filter build/%,$(LIST)),echo 'make run: this program was compiled without its proofs; "make prove" proves it and builds it anew' >&2)
+	@{ printf '\000\001\377\000\000\000\001\021\000\001\377\000\000\000\001\020'; cat examples/worked.book; } | $(LIST)
+
+prove:
+	@tools/progress rt check
 
 test:
 	bash .ci/run
@@ -85,27 +112,41 @@ build/libmodel.a: build/plain/model_list.o build/plain/model_assemble.o
 	ar rcs $@ $^
 FORCE:
 
-# A page's section is the last part of its name.
+# A page's section is the last part of its name. A function has a page that leads to the library's.
 page_to = $(DESTDIR)$(MANDIR)/man$(subst .,,$(suffix $(1)))/$(if $(filter .1,$(suffix $(1))),$(PROGRAM_PREFIX))$(notdir $(1))
+FUNCTION_PAGES = $(patsubst %,%.3,$(shell tools/exports --names))
 
-install: build/libcombinator.a $(filter target/%,$(PROGRAMS))
-	install -d $(DESTDIR)$(LIBDIR)/pkgconfig $(DESTDIR)$(INCLUDEDIR) $(DESTDIR)$(PACKAGEDIR) $(DESTDIR)$(BINDIR)
+# The files by which others find the library name no folder but from their own, LIBDIR/NAME: what was installed can be moved.
+relative = $(shell realpath -ms --relative-to=$(1) $(2))
+FILLED = sed -e 's|@TO_PREFIX@|$(call relative,$(LIBDIR)/pkgconfig,$(PREFIX))|' -e 's|@LIBDIR@|$(call relative,$(PREFIX),$(LIBDIR))|' \
+    -e 's|@INCLUDEDIR@|$(call relative,$(PREFIX),$(INCLUDEDIR))|' -e 's|@VERSION@|$(VERSION)|' -e 's|@MAJOR@|$(MAJOR)|' \
+    -e 's|@SONAME@|$(SONAME)|' -e 's|@SHARED@|$(SHARED)|'
+FOUND_BY = pkgconfig/combinator.pc cmake/combinator/combinator-config.cmake cmake/combinator/combinator-config-version.cmake
+
+install: build/libcombinator.a build/$(SHARED) $(filter target/%,$(PROGRAMS))
+	install -d $(DESTDIR)$(LIBDIR) $(DESTDIR)$(INCLUDEDIR) $(DESTDIR)$(PACKAGEDIR) $(DESTDIR)$(BINDIR)
 	install -m 644 build/libcombinator.a $(DESTDIR)$(LIBDIR)/libcombinator.a
-	install -m 644 include/combinator.h $(DESTDIR)$(INCLUDEDIR)/combinator.h
-	sed -e 's|@PREFIX@|$(PREFIX)|' -e 's|@LIBDIR@|$(LIBDIR)|' -e 's|@INCLUDEDIR@|$(INCLUDEDIR)|' -e 's|@VERSION@|$(VERSION)|' \
-	    include/combinator.pc.in > $(DESTDIR)$(LIBDIR)/pkgconfig/combinator.pc
-	chmod 644 $(DESTDIR)$(LIBDIR)/pkgconfig/combinator.pc
+	install -m 755 build/$(SHARED) $(DESTDIR)$(LIBDIR)/$(SHARED)
+	ln -sf $(SHARED) $(DESTDIR)$(LIBDIR)/$(SONAME)
+	ln -sf $(SONAME) $(DESTDIR)$(LIBDIR)/libcombinator.so
+	install -m 644 $(HEADERS) $(DESTDIR)$(INCLUDEDIR)
+	$(foreach f,$(FOUND_BY),install -d $(DESTDIR)$(LIBDIR)/$(dir $(f)) && $(FILLED) include/$(notdir $(f)).in > $(DESTDIR)$(LIBDIR)/$(f) && \
+	    chmod 644 $(DESTDIR)$(LIBDIR)/$(f) &&) :
 	$(foreach p,$(PROGRAMS),install -m 755 $(p) $(DESTDIR)$(PACKAGEDIR)/$(notdir $(p)) && \
 	    ln -sfr $(DESTDIR)$(PACKAGEDIR)/$(notdir $(p)) $(DESTDIR)$(BINDIR)/$(PROGRAM_PREFIX)$(notdir $(p)) &&) :
 	$(if $(MODULES),install -d $(DESTDIR)$(PACKAGEDIR)/booktext && install -m 644 $(MODULES) $(DESTDIR)$(PACKAGEDIR)/booktext)
-	$(foreach p,$(PAGES),install -D -m 644 $(p) $(call page_to,$(p)) &&) :
+	$(if $(PYTHON),install -m 644 $(PYTHON) $(DESTDIR)$(PACKAGEDIR))
+	$(foreach p,$(PAGES),install -d $(dir $(call page_to,$(p))) && tools/page '$(PROGRAM_PREFIX)' $(p) > $(call page_to,$(p)) && \
+	    chmod 644 $(call page_to,$(p)) &&) :
+	$(foreach p,$(FUNCTION_PAGES),echo '.so man3/combinator.3' > $(call page_to,$(p)) && chmod 644 $(call page_to,$(p)) &&) :
 
 uninstall:
-	rm -f $(DESTDIR)$(LIBDIR)/libcombinator.a $(DESTDIR)$(LIBDIR)/pkgconfig/combinator.pc $(DESTDIR)$(INCLUDEDIR)/combinator.h
-	rm -f $(foreach p,$(PROGRAMS),$(DESTDIR)$(BINDIR)/$(PROGRAM_PREFIX)$(notdir $(p))) $(foreach p,$(PAGES),$(call page_to,$(p)))
-	rm -f $(foreach p,$(PROGRAMS),$(DESTDIR)$(PACKAGEDIR)/$(notdir $(p)))
-	rm -rf $(DESTDIR)$(PACKAGEDIR)/booktext
-	rmdir $(DESTDIR)$(PACKAGEDIR)
+	rm -f $(foreach f,libcombinator.a libcombinator.so $(SONAME) $(SHARED) $(FOUND_BY),$(DESTDIR)$(LIBDIR)/$(f))
+	rm -f $(foreach h,$(HEADERS),$(DESTDIR)$(INCLUDEDIR)/$(notdir $(h)))
+	rm -f $(foreach p,$(PROGRAMS),$(DESTDIR)$(BINDIR)/$(PROGRAM_PREFIX)$(notdir $(p))) $(foreach p,$(PAGES) $(FUNCTION_PAGES),$(call page_to,$(p)))
+	rm -f $(foreach p,$(PROGRAMS) $(PYTHON),$(DESTDIR)$(PACKAGEDIR)/$(notdir $(p)))
+	rm -rf $(DESTDIR)$(PACKAGEDIR)/booktext $(DESTDIR)$(PACKAGEDIR)/__pycache__
+	rmdir $(DESTDIR)$(PACKAGEDIR) $(DESTDIR)$(LIBDIR)/cmake/combinator
 
 clean:
 	rm -rf build

@@ -7,14 +7,22 @@
  * The library needs nothing but memcpy, memset and their like from the C library. It allocates
  * nothing, reads and writes nothing but the buffers passed to it, and every call ends.
  *
- * Link with -lcombinator (x86-64). All numbers within buffers are big-endian.
+ * Link with -lcombinator (x86-64). All numbers within buffers are big-endian. combinator_helpers.h
+ * writes books, reads such numbers, and has the words of refusals and the text of ISD-ASes.
  *
  *
  * Answers
  *
  * Below COMBINATOR_REFUSED a number is the answer itself: of combinator_list the count of solutions,
  * 0 to COMBINATOR_MAX_SOLUTIONS; of combinator_assemble COMBINATOR_PATH, COMBINATOR_LOOP or
- * COMBINATOR_BARE. COMBINATOR_REFUSED + N is refusal N:
+ * COMBINATOR_BARE. COMBINATOR_REFUSED + N is refusal N, a number that is no count: test an answer
+ * before it is used.
+ *
+ *     count = combinator_list(src, dst, book, book_len, list, sizeof list);
+ *     if (COMBINATOR_IS_REFUSAL(count))
+ *         return COMBINATOR_REFUSAL(count);
+ *
+ * The refusals:
  *
  *      1 Cut       the book is under COMBINATOR_COUNTS_SIZE bytes, or shorter than its counts say
  *      2 Surplus   the book is longer than its counts say
@@ -43,6 +51,19 @@
  * all zero. Zeroing takes time: an output no longer than needed is cheaper.
  *
  *
+ * Words
+ *
+ *     units      the life of a hop, in parts of 337.5 seconds: a hop of u units lives
+ *                floor((u + 1) * 337.5) seconds from its segment's timestamp on. A path expires
+ *                with the first of its hops
+ *     cost       the links that a solution passes, peering links among them
+ *     shortcut   a segment is used between its last entry and the entry of this index; those before
+ *                it are not passed. 0: the whole segment
+ *     best       the order of solutions is by cost; then by their count of edges; then edge by edge:
+ *                none before a peer and the smaller index of a peer first, the larger shortcut
+ *                first, the smaller fingerprint first; then by position. No two tie
+ *
+ *
  * Time, threads and stack
  *
  * Every call ends after a number of steps that the limits of a book bind. The tests hold a listing
@@ -54,12 +75,39 @@
  *
  * A call needs at most COMBINATOR_STACK_SIZE bytes of stack: `driver stack` measured 76,719 for
  * combinator_list and 3,767 for combinator_assemble; the constant leaves room above that.
+ *
+ * The library has unwind tables: a debugger, or backtrace() in a signal handler, passes through it.
  */
 #ifndef COMBINATOR_H
 #define COMBINATOR_H
 
 #include <stddef.h>
 #include <stdint.h>
+
+#define COMBINATOR_VERSION "0.1.0"
+#define COMBINATOR_VERSION_MAJOR 0
+#define COMBINATOR_VERSION_MINOR 1
+#define COMBINATOR_VERSION_PATCH 0
+
+/* What a compiler is told of the functions, to warn of wrong calls; nothing where it does not know:
+ * no pointer is NULL, the answer is looked at, and of each buffer, by the places of its parameters,
+ * its length and that it is only read or only written. */
+#ifdef __has_attribute
+#if __has_attribute(__nonnull__) && __has_attribute(__warn_unused_result__)
+#define COMBINATOR_CALL __attribute__((__nonnull__, __warn_unused_result__))
+#endif
+#if __has_attribute(__access__)
+#define COMBINATOR_READS(buffer, length) __attribute__((__access__(__read_only__, buffer, length)))
+#define COMBINATOR_WRITES(buffer, length) __attribute__((__access__(__write_only__, buffer, length)))
+#endif
+#endif
+#ifndef COMBINATOR_CALL
+#define COMBINATOR_CALL
+#endif
+#ifndef COMBINATOR_READS
+#define COMBINATOR_READS(buffer, length)
+#define COMBINATOR_WRITES(buffer, length)
+#endif
 
 #ifdef __cplusplus
 extern "C" {
@@ -214,7 +262,8 @@ extern "C" {
  *
  * Returns the count of solutions, or a refusal: about the book, or COMBINATOR_FULL. */
 uint32_t combinator_list(uint64_t src, uint64_t dst, const uint8_t *book, size_t book_len,
-                         uint8_t *out, size_t out_len);
+                         uint8_t *out, size_t out_len)
+    COMBINATOR_CALL COMBINATOR_READS(3, 4) COMBINATOR_WRITES(5, 6);
 
 /* Makes the path of a solution into out.
  *
@@ -227,7 +276,8 @@ uint32_t combinator_list(uint64_t src, uint64_t dst, const uint8_t *book, size_t
  * COMBINATOR_SMALL or COMBINATOR_STRANGER. */
 uint32_t combinator_assemble(uint64_t src, uint64_t dst, const uint8_t *book, size_t book_len,
                              const uint8_t *record, size_t record_len, uint8_t *out,
-                             size_t out_len);
+                             size_t out_len)
+    COMBINATOR_CALL COMBINATOR_READS(3, 4) COMBINATOR_READS(5, 6) COMBINATOR_WRITES(7, 8);
 
 #ifdef __cplusplus
 }

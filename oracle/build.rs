@@ -1,6 +1,7 @@
 //! Assembles the crate's modules in OUT_DIR: first the given files, byte for byte, then the
 //! stand-ins of scaffold/ in the places of absent files. A stand-in may never take the place of a
 //! given file; the build stops if it would. ORACLE_SRC names the folder of the given files.
+//! With the feature `glue`, readme.rs there is the code of bindings/rust/README.md.
 
 use std::{
     fs,
@@ -22,6 +23,23 @@ fn files(root: &Path, dir: &Path, out: &mut Vec<PathBuf>) {
             out.push(p.strip_prefix(root).unwrap().to_path_buf());
         }
     }
+}
+
+/// The code of the README that needs the given files, on the lines on which it stands there.
+fn readme(file: &Path) -> String {
+    println!("cargo:rerun-if-changed={}", file.display());
+    let text = fs::read_to_string(file).unwrap_or_else(|e| panic!("{}: {e}", file.display()));
+    let mut inside = false;
+    let mut code = String::new();
+    for line in text.lines() {
+        if line.starts_with("```") {
+            inside = line == "```rust,ignore";
+        } else if inside {
+            code.push_str(line);
+        }
+        code.push('\n');
+    }
+    code
 }
 
 fn main() {
@@ -84,4 +102,8 @@ fn main() {
     let out = out.parent().unwrap();
     fs::write(out.join("roots.rs"), roots).unwrap();
     fs::write(out.join("given.txt"), list).unwrap();
+    if std::env::var_os("CARGO_FEATURE_GLUE").is_some() {
+        let code = readme(&here.join("../bindings/rust/README.md"));
+        fs::write(out.join("readme.rs"), code).unwrap();
+    }
 }

@@ -1,14 +1,20 @@
 #!/usr/bin/env python3
 """Tests of tools/book, of the examples and of the model that stands in for the program. Run: python3 tests/test_book.py"""
+import contextlib
 import html
 import importlib.util
 import io
+import json
 import os
 import random
+import re
+import resource
 import shutil
+import signal
 import subprocess
 import sys
 import tempfile
+import time
 import unittest
 from collections import Counter
 from importlib.machinery import SourceFileLoader
@@ -22,13 +28,14 @@ sys.path[:0] = [str(ROOT / "tools"), str(HERE)]
 
 import generate
 import model
-from booktext import BookError, dot, draw, isd_as, layout, notes, printed, refusal, text, times
+from booktext import BookError, Trouble, as_json, dot, draw, forms, isd_as, layout, names, notes, printed, refusal, text, times
 from booktext.layout import COUNTS, ENDS, ENTRY, HEAD, PEER, Entry, Peer, Segment
-from booktext.picture import COLOURS, Picture
+from booktext.picture import COLOURS, MOST, PAGE, Picture
 
 BOOK = ROOT / "tools" / "book"
 MODEL = HERE / "model.py"
-LIST = ROOT / "target" / "bin" / "list"
+# The proved program, or the one that `make run` compiles without its proofs.
+LIST = next((p for p in (ROOT / "target" / "bin" / "list", ROOT / "build" / "unproved" / "list") if p.exists()), ROOT / "no list")
 
 A, B, C = 0x0001FF0000000111, 0x0001FF0000000110, 0x0001FF0000000112
 
@@ -48,6 +55,9 @@ if 0001ff0000000110 5
 """
 
 EXAMPLES = {"worked": ("1-ff00:0:111", "1-ff00:0:110"), "house": ("1-ff00:0:131", "1-ff00:0:141"), "core": ("1-ff00:0:111", "2-64498")}
+
+# On standard error, where the program is asked.
+NO_REASONS = "book: the program gives no reasons, the library does: build it with make lib, or name it with --library\n"
 
 ENTRY_LINE = "entry 1-ff00:0:110 mtu 1500 ingress-mtu 0 ingress 0 egress 5 units 63 mac 010203040506"
 PEER_LINE = "peer 1-ff00:0:112 interface 2 mtu 1400 units 63 ingress 9 egress 5 mac f0f1f2f3f4f5"
@@ -85,10 +95,13 @@ def book(*args, given=b"", path=None):
     return status, stdout.value(), stderr.value().decode()
 
 
-def alone(*args, given=b""):
+def alone(*args, given=b"", **options):
     """The same in a process of its own."""
-    done = subprocess.run([str(BOOK), *map(str, args)], input=given, capture_output=True, check=False)
-    return done.returncode, done.stdout, done.stderr.decode()
+    streams = {"input": given, "stdout": subprocess.PIPE, "stderr": subprocess.PIPE, **options}
+    if "stdin" in streams:
+        del streams["input"]
+    done = subprocess.run([str(BOOK), *map(str, args)], check=False, **streams)
+    return done.returncode, done.stdout, (done.stderr or b"").decode()
 
 
 def asked(source, destination, data):
@@ -125,7 +138,39 @@ class Names(unittest.TestCase):
     def test_times(self):
         self.assertEqual(times.written(0), "1970-01-01T00:00:00Z")
         self.assertEqual(times.written(2**32 - 1), "2106-02-07T06:28:15Z")
-        self.assertEqual(times.parse("2026-01-01T06:00:00Z"), 1767247200)
+
+    def test_times_as_people_write_them(self):
+        # 1767247200 is 2026-01-01T06:00:00Z: 56 years of 365 days, 14 leap days, six hours.
+        at = (56 * 365 + 14) * 86400 + 6 * 3600
+        self.assertEqual(at, 1767247200)
+        for words, seconds in (("1767247200", at), ("2026-01-01", at - 21600), ("2026-01-01 06:00", at), ("2026-01-01T06:00", at),
+                               ("2026-01-01t06:00:07", at + 7), ("2026-01-01T06:00:00Z", at), ("2026-01-01 06:00:00z", at), ("2026-01-01 06:00:00 UTC", at),
+                               ("2026-01-01T06:00:00+01:00", at - 3600), ("2026-01-01T06:00-0530", at + 19800), ("2026-01-01 06:00:00 +0000", at),
+                               ("0", 0), ("0" * 30 + "7", 7), ("1970-01-01", 0), ("1970-01-01T01:00+01:00", 0), ("2024-02-29", 1709164800), ("2106-02-07T06:28:15Z", 2**32 - 1),
+                               ("4294967295", 2**32 - 1)):
+            with self.subTest(words=words):
+                self.assertEqual(times.parse(words), seconds)
+        taken = "a time is seconds since 1970 or a date such as 2026-01-01, 2026-01-01T06:00 or 2026-01-01T06:00:00+01:00"
+        for words, message in (("2026-02-30", "there is no day 2026-02-30: 2026-02 has 28 days"), ("2026-00-01", "the month is 1 to 12"),
+                               ("2026-01-00T06:00", "there is no day 2026-01-00: 2026-01 has 31 days"), ("2026-01-01T24:00", "the hour is 0 to 23"),
+                               ("2026-01-01 06:60", "the minute is 0 to 59"), ("2026-01-01T06:00:60Z", "the second is 0 to 59"),
+                               ("0000-01-01", "the year is 1 to 9999"),
+                               ("2026-01-01T06:00+24:00", "there is no zone +24:00"), ("2026-01-01T06:00+01:60", "there is no zone +01:60"),
+                               ("1970-01-01T00:00+00:01", "1970-01-01T00:00+00:01 is before 1970"), ("1969-12-31", "1969-12-31 is before 1970"),
+                               ("2106-02-07T06:28:16", "2106-02-07T06:28:16 is after 2106-02-07T06:28:15Z: a time has at most 4294967295 seconds"),
+                               ("4294967296", "4294967296 is after 2106-02-07T06:28:15Z"), ("", f"'' is no time: {taken}"), ("-1", taken), ("1.5", taken),
+                               ("2026-1-1", taken), ("2026-01-01T", taken), ("2026-01-01 6:00", taken), ("2026-01-01Z", taken), ("01.01.2026", taken),
+                               ("２０２６-01-01", taken), ("yesterday", taken)):
+            with self.subTest(words=words), self.assertRaises(ValueError) as found:
+                times.parse(words)
+            self.assertIn(message, str(found.exception))
+
+    def test_life(self):
+        # docs/SPECIFICATION.md 1.5 and 6.8.
+        for units, life in ((0, 337), (1, 675), (2, 1012), (63, 21600), (255, 86400)):
+            self.assertEqual(times.life(units), life)
+        self.assertEqual(times.end(1000000, 63), 1021600)
+        self.assertEqual(times.end(2**32 - 2, 0), 2**32 - 1)
 
 
 class RoundTrip(unittest.TestCase):
@@ -134,7 +179,7 @@ class RoundTrip(unittest.TestCase):
             words = text.written(refusal.read(data))
             self.assertEqual(layout.write(text.parse(words.encode())), data)
             self.assertEqual(text.written(text.parse(words.encode())), words)
-            noted = text.written(refusal.read(data), notes=True)
+            noted = text.written(refusal.read(data), lambda position, s: notes.above(position, s, {A: "a name", B: "#"}))
             self.assertEqual(layout.write(text.parse(noted.encode())), data)
 
     def test_fields(self):
@@ -179,6 +224,8 @@ class RoundTrip(unittest.TestCase):
                 "entry 0001ff0000000110 mac 010203040506 units 63 egress 5 ingress 0 ingress-mtu 00 mtu 1500\n\n"
                 "      peer 1-ff00:0:112 mac F0F1F2F3F4F5 interface 2 mtu 1400 units 63 ingress 9 egress 5")
         self.assertEqual(text.written(text.parse(free.encode())), canonical)
+        for again in ("2026-01-01T06:00", "2026-01-01t07:00+01:00", "2026-01-01T06:00:00z"):
+            self.assertEqual(text.written(text.parse(free.replace("2026-01-01T06:00:00Z", again).encode())), canonical)
 
 
 class TextErrors(unittest.TestCase):
@@ -208,14 +255,17 @@ class TextErrors(unittest.TestCase):
 
     def test_numbers(self):
         head = "core timestamp 1 id 0001\n"
-        self.wrong("core timestamp 4294967296 id 0001", "1: timestamp 4294967296 is above 4294967295")
-        self.wrong("core timestamp -1 id 0001", "1: timestamp is a number in base ten, not '-1'")
-        self.wrong("core timestamp 2026-01-01T id 0001", "1: '2026-01-01T' is no time such as 2026-01-01T06:00:00Z")
-        self.wrong("core timestamp 1969-12-31T23:59:59Z id 0001", "1: timestamp 1969-12-31T23:59:59Z is before 1970")
+        self.wrong("core timestamp 4294967296 id 0001", "1: 4294967296 is after 2106-02-07T06:28:15Z: a time has at most 4294967295 seconds")
+        self.wrong("core timestamp 2026-01-01 06:00 id 0001", "1: core has no field '06:00', its fields are timestamp, id")
+        self.wrong("core timestamp 2026-02-30 id 0001", "1: there is no day 2026-02-30: 2026-02 has 28 days")
+        self.wrong("core timestamp 1969-12-31T23:59:59Z id 0001", "1: 1969-12-31T23:59:59Z is before 1970")
         self.wrong("core timestamp 1 id 123", "1: id is written in 4 hex digits, not '123'")
         self.wrong(head + ENTRY_LINE.replace("egress 5", "egress 65536"), "2: egress 65536 is above 65535")
         self.wrong(head + ENTRY_LINE.replace("mtu 1500", "mtu 0x5dc"), "2: mtu is a number in base ten, not '0x5dc'")
         self.wrong(head + ENTRY_LINE.replace("units 63", "units 256"), "2: units 256 is above 255")
+        many = "9" * 5000
+        self.wrong(head + ENTRY_LINE.replace("units 63", f"units {many}"), f"2: units {many} is above 255")
+        self.wrong(f"core timestamp {many} id 0001", f"1: {many} is after 2106-02-07T06:28:15Z: a time has at most 4294967295 seconds")
         self.wrong(head + ENTRY_LINE.replace("010203040506", "01:02:03:04:05:06"), "2: mac is written in 12 hex digits, not '01:02:03:04:05:06'")
 
     def test_limits(self):
@@ -226,9 +276,9 @@ class TextErrors(unittest.TestCase):
         self.wrong(head + f"{ENTRY_LINE}\n" + f"{PEER_LINE}\n" * (peers + 1),
                    f"{peers + 3}: more than {peers} peers at entry 0 of segment 0 (refusal 6, Peers)")
         full = (head + (f"{ENTRY_LINE}\n" + f"{PEER_LINE}\n" * peers) * entries) * segments
-        sizes, line, size = {"core": HEAD.size, "entry": ENTRY.size, "peer": PEER.size}, 0, COUNTS.size
+        sizes, lines, line, size = {"core": HEAD.size, "entry": ENTRY.size, "peer": PEER.size}, full.splitlines(), 0, COUNTS.size
         while size <= layout.MAX_BOOK:
-            size += sizes[full.splitlines()[line].split()[0]]
+            size += sizes[lines[line].split()[0]]
             line += 1
         self.wrong(full, f"{line}: the book has {size} bytes up to here, at most {layout.MAX_BOOK} are taken (refusal 3, Oversize)")
 
@@ -236,7 +286,7 @@ class TextErrors(unittest.TestCase):
         for run in (book, alone):
             self.assertEqual(run("encode", given=b"core timestamp 1\n"), (1, b"", "book: <standard input>:1: core lacks id\n"))
         status, out, said = book("encode", "/no/such/file")
-        self.assertEqual((status, out, said), (1, b"", "book: /no/such/file: No such file or directory\n"))
+        self.assertEqual((status, out, said), (2, b"", "book: /no/such/file: No such file or directory\n"))
 
 
 class Refusals(unittest.TestCase):
@@ -315,19 +365,266 @@ class Refusals(unittest.TestCase):
 
     def test_accepted(self):
         house = ROOT / "examples" / "house.book"
-        status, out, _ = book("check", house)
+        status, out, _ = book("check", "--now", "2026-01-01T06:30", house)
         self.assertEqual((status, out.decode()),
                          (0, f"accepted: 1 core and 4 non-core segments, 14 entries, 2 peers, {house.stat().st_size} of {layout.MAX_BOOK} bytes\n"))
 
-    def test_notes(self):
-        segments = text.parse(f"core timestamp 1 id 0001\n{ENTRY_LINE}\n{PEER_LINE}\nnon-core timestamp 1 id 0001\n{ENTRY_LINE}\n{ENTRY_LINE}\n{PEER_LINE}\n"
-                              f"non-core timestamp 1 id 0001\n{ENTRY_LINE}\n{ENTRY_LINE}\n{PEER_LINE}\nnon-core timestamp 1 id 0001\n".encode())
-        self.assertEqual(notes.notes(segments), [
-            "segment 0, entry 0: peers of a core segment yield no edges",
-            "segment 1, entry 1: 1-ff00:0:110 stands earlier in the segment",
-            "segment 1, entry 1, peer 0: no segment has the other end of this link, 1-ff00:0:112#2 to 1-ff00:0:110#9",
-            "segment 2 equals segment 1: they count once, as segment 1",
-            "segment 3 has no entries: it yields no edges"])
+
+def entry_line(isd_as, ingress, egress, units=63, mtu=1500, mac="010203040506"):
+    return f"  entry {isd_as} mtu {mtu} ingress-mtu 0 ingress {ingress} egress {egress} units {units} mac {mac}\n"
+
+
+class Notes(unittest.TestCase):
+    """Books that are accepted but look wrong."""
+
+    def noted(self, words, expected, **options):
+        """The expected notes, each its kind and its line."""
+        segments = text.parse(words.encode())
+        self.assertEqual([(n.kind, str(n)) for n in notes.notes(segments, **options)], expected)
+
+    def two(self, head="non-core timestamp 1000000 id 0001", top=(0, 1), leaf=(1, 0), **options):
+        return f"{head}\n{entry_line('1-1', *top, **options)}{entry_line('1-2', *leaf, **options)}"
+
+    def test_nothing_to_say(self):
+        self.noted(self.two(), [], now=1021600, between=(1 << 48 | 1, 1 << 48 | 2))
+
+    def test_equal_empty_repeated_peers(self):
+        above, leaf = entry_line("1-1", 0, 5), entry_line("1-1", 2, 0)
+        peer = f"    {PEER_LINE}\n"
+        self.noted(f"core timestamp 1 id 0001\n{above}{peer}{entry_line('1-2', 2, 0)}" + 2 * f"non-core timestamp 1 id 0001\n{above}{leaf}{peer}" +
+                   "non-core timestamp 1 id 0001\n", [
+                       ("core-peers", "segment 0, entry 0: peers of a core segment yield no edges"),
+                       ("repeated", "segment 1, entry 1: the kiln (1-1) stands earlier in the segment"),
+                       ("one-sided", "segment 1, entry 1, peer 0: no segment has the other end of this link, 1-ff00:0:112#2 to the kiln (1-1#9)"),
+                       ("equal", "segment 2: equal to segment 1: they count once, as segment 1"),
+                       ("empty", "segment 3: no entries: it yields no edges")], names={1 << 48 | 1: "the kiln"})
+
+    def test_ends_of_a_segment(self):
+        self.noted(self.two(top=(7, 1)), [("first-ingress", "segment 0, entry 0: ingress 7, and a segment begins without one, at 0")])
+        self.noted(self.two(leaf=(1, 8)), [("last-egress", "segment 0, entry 1: egress 8, and a segment ends without one, at 0")])
+
+    def test_mtu(self):
+        # docs/SPECIFICATION.md 6.4: 65,536 counts as 0, 70,000 as 4,464.
+        self.noted(self.two(mtu=65535), [])
+        for mtu, counts in ((65536, 0), (70000, 4464), (2**32 - 1, 65535)):
+            words = f"its MTU {mtu} is above 65535: only the low 16 bits count, which are {counts}"
+            self.noted(self.two(mtu=mtu), [("mtu", f"segment 0, entry {k}: {words}") for k in (0, 1)])
+
+    def test_reissue(self):
+        first, same = self.two(), "the same ASes and interfaces as segment 0, so that one reissues the other"
+        # 63 units live 21,600 seconds, 61 units 20,925: from 1,000,000 to 1,021,600; from 1,000,675 with 61 to the same second.
+        for again, longer in ((self.two("non-core timestamp 1000001 id 0002"), "segment 1 lives longer, until 1970-01-12T19:46:41Z"),
+                              (self.two("non-core timestamp 999999 id 0001"), "segment 0 lives longer, until 1970-01-12T19:46:40Z"),
+                              (self.two("non-core timestamp 1000675 id 0003", units=61), "both live, until 1970-01-12T19:46:40Z"),
+                              (self.two(mac="0a0b0c0d0e0f"), "both live, until 1970-01-12T19:46:40Z")):
+            self.noted(first + again, [("reissue", f"segment 1: {same}: {longer}")])
+        self.noted(first + self.two(top=(0, 2)), [])
+        self.noted(self.two("core timestamp 1000000 id 0001") + self.two(), [])
+
+    def test_run_out(self):
+        ran_out = ("run-out", "segment 0: ran out at 1970-01-12T19:46:40Z")
+        self.noted(self.two(), [], now=1021600)
+        self.noted(self.two(), [ran_out], now=1021601)
+        # The hop that lives least counts: that of 0 units, 337 seconds.
+        mixed = f"core timestamp 1000000 id 0001\n{entry_line('1-1', 0, 1, units=63)}{entry_line('1-2', 1, 0, units=0)}"
+        self.noted(mixed, [], now=1000337)
+        self.noted(mixed, [("run-out", "segment 0: ran out at 1970-01-12T13:52:17Z")], now=1000338)
+
+    def test_run_out_of_a_peer(self):
+        def half(a, mine, other, theirs, units):
+            return (f"non-core timestamp 1000000 id 0001\n{entry_line(a, 0, 0)}"
+                    f"    peer {other} interface {theirs} mtu 1400 units {units} ingress {mine} egress 0 mac f0f1f2f3f4f5\n")
+        words = half("1-1", 3, "1-2", 4, 0) + half("1-2", 4, "1-1", 3, 63)
+        self.noted(words, [("run-out", "segment 0, entry 0, peer 0: its hop ran out at 1970-01-12T13:52:17Z")], now=1000338)
+
+    def test_ends(self):
+        self.noted(self.two(), [("end", "source 1-3 is in no segment"), ("end", "destination the desk (1-4) is in no segment")],
+                   between=(1 << 48 | 3, 1 << 48 | 4), names={1 << 48 | 4: "the desk"})
+        self.noted(self.two(), [("end", "source and destination are both 1-1, and no path leads from an AS to itself")],
+                   between=(1 << 48 | 1, 1 << 48 | 1))
+
+    def test_command(self):
+        data = self.two().encode()
+        accepted = f"accepted: 0 core and 1 non-core segments, 2 entries, 0 peers, {18 + 2 * ENTRY.size} of {layout.MAX_BOOK} bytes\n"
+        self.assertEqual(book("check", "--now", "1970-01-12 19:46:40", given=data), (0, accepted.encode(), ""))
+        for now in (("--now", "1970-01-12T20:46:41+01:00"), ()):
+            self.assertEqual(book("check", *now, given=data), (0, f"{accepted}note: segment 0: ran out at 1970-01-12T19:46:40Z\n".encode(), ""))
+        status, out, _ = book("check", "--now", "0", "--ends", "1-2", "1-5", given=data)
+        self.assertEqual((status, out.decode()), (0, f"{accepted}note: destination 1-5 is in no segment\n"))
+
+
+class Forms(unittest.TestCase):
+    """Bytes, text and JSON are told apart, and each is taken wherever a book is."""
+
+    def test_no_accepted_book_is_text(self):
+        # An accepted book begins with a count of core segments that is at most the limit, and no text begins with two such bytes.
+        for count in range(layout.MAX_SEGMENTS + 1):
+            self.assertEqual(forms.form(COUNTS.pack(cores=count)), forms.BYTES)
+            self.assertEqual(forms.form(COUNTS.pack(cores=count)[:2] + b"core"), forms.BYTES)
+
+    def test_what_is_text_is_refused_as_bytes(self):
+        seen = Counter()
+        for k, (_, _, data) in enumerate(generate.cases("forms", 100)):
+            rng = random.Random(f"forms/{k}")
+            self.assertEqual(forms.form(data), forms.BYTES)
+            words = text.written(refusal.read(data)).encode()
+            any_letters = bytes(rng.choice(b"\t\n\r #{core\xff") for _ in range(rng.randrange(1, 20)))
+            for given in (generate.damaged(rng, data), words[:rng.randrange(1, 50)], any_letters, as_json.written(refusal.read(data)).encode()):
+                if forms.form(given) != forms.BYTES:
+                    self.assertIn(refusal.verdict(given).number, (layout.CUT, layout.OVERSIZE, layout.CROWDED))
+                    seen[forms.form(given), refusal.verdict(given).number] += 1
+        self.assertLessEqual({(forms.TEXT, layout.CUT), (forms.TEXT, layout.CROWDED), (forms.JSON, layout.CROWDED)}, set(seen))
+
+    def test_told_apart(self):
+        worked = WORKED_INPUT[ENDS.size:]
+        for data, form in ((b"", forms.BYTES), (worked, forms.BYTES), (worked[:7], forms.BYTES), (bytes(61441), forms.BYTES), (b"\x7fELF\2\1", forms.BYTES),
+                           (b"core timestamp 1 id 0001\n", forms.TEXT), (b"# only a comment", forms.TEXT), (b"\r\n\t\n", forms.TEXT),
+                           (b"cores", forms.TEXT), ("# Köln\n".encode(), forms.TEXT), (b"# K\xf6ln\n", forms.TEXT), (b"core\0", forms.BYTES),
+                           (b'\n {"segments": []}', forms.JSON), (b"\xef\xbb\xbf{", forms.JSON)):
+            with self.subTest(data=data):
+                self.assertEqual(forms.form(data), form)
+
+    def test_taken_by_every_command(self):
+        for name, ends in EXAMPLES.items():
+            data, words = ((ROOT / "examples" / f"{name}.{kind}").read_bytes() for kind in ("book", "txt"))
+            made = as_json.written(refusal.read(data)).encode()
+            for args in (("check",), ("decode",), ("decode", "--notes"), ("decode", "--json"), ("list", "--program", MODEL, *ends)):
+                answer = book(*args, given=data)
+                self.assertEqual((answer[0], answer[2]), (0, NO_REASONS if args[0] == "list" else ""))
+                for given in (words, made):
+                    self.assertEqual(book(*args, given=given), answer)
+            self.assertEqual(book("decode", given=b"\xef\xbb\xbf" + words), book("decode", given=data))
+        with tempfile.TemporaryDirectory() as folder:
+            for given in (data, words):
+                self.assertEqual(book("draw", "--program", MODEL, *ends, "-o", Path(folder, "x.dot"), given=given), (0, b"", ""))
+                Path(folder, "x.dot").rename(Path(folder, forms.form(given)))
+            self.assertEqual(Path(folder, forms.BYTES).read_bytes(), Path(folder, forms.TEXT).read_bytes())
+
+    def test_wrong_text(self):
+        for args in (("check",), ("decode",), ("list", "--program", MODEL, "1-1", "1-2"), ("draw", "--program", MODEL, "1-1", "1-2", "-o", "x.dot")):
+            self.assertEqual(book(*args, given=b"# a book\ncore timestamp 1\n"), (1, b"", "book: <standard input>:2: core lacks id\n"))
+        self.assertEqual(book("check", given=b"# K\xf6ln\n"), (1, b"", "book: <standard input>:1: not UTF-8 text\n"))
+
+    def test_encode(self):
+        data = (ROOT / "examples" / "house.book").read_bytes()
+        self.assertEqual(book("encode", given=b""), (0, bytes(COUNTS.size), ""))
+        self.assertEqual(book("encode", given=as_json.written(refusal.read(data)).encode()), (0, data, ""))
+        self.assertEqual(book("encode", given=data), (1, b"", "book: <standard input>: neither text nor JSON, since it has control characters; "
+                                                      "the bytes of a book are taken by decode, check, list and draw\n"))
+
+
+class Json(unittest.TestCase):
+    def test_round_trip(self):
+        for _, _, data in generate.cases("json", 100):
+            made = as_json.written(refusal.read(data))
+            self.assertEqual(forms.book(made.encode(), "x"), data)
+            self.assertEqual(as_json.written(as_json.parse(made.encode())), made)
+
+    def test_decode(self):
+        # The worked example, by hand.
+        above = {"isd_as": "1-ff00:0:110", "mtu": 1500, "ingress_mtu": 0, "ingress": 0, "egress": 5, "units": 63, "mac": "010203040506", "peers": []}
+        leaf = {"isd_as": "1-ff00:0:111", "mtu": 1400, "ingress_mtu": 1350, "ingress": 7, "egress": 0, "units": 63, "mac": "0a0b0c0d0e0f", "peers": []}
+        status, out, _ = book("decode", "--json", given=WORKED_INPUT[ENDS.size:])
+        self.assertEqual((status, json.loads(out)), (0, {"segments": [{"kind": "non-core", "timestamp": 1000000, "id": "1234", "entries": [above, leaf]}]}))
+        status, out, _ = book("decode", "--json", given=f"core timestamp 1 id 0002\n{ENTRY_LINE}\n{PEER_LINE}\n".encode())
+        [segment] = json.loads(out)["segments"]
+        self.assertEqual((segment["kind"], segment["entries"][0]["peers"]),
+                         ("core", [{"isd_as": "1-ff00:0:112", "interface": 2, "mtu": 1400, "units": 63, "ingress": 9, "egress": 5, "mac": "f0f1f2f3f4f5"}]))
+
+    def test_free(self):
+        free = '{"segments": [{"id": "12AB", "entries": [], "timestamp": "2026-01-01T07:00+01:00", "kind": "core"}]}'
+        self.assertEqual(as_json.parse(free.encode()), [Segment(1767247200, 0x12AB, [], True)])
+
+    def wrong(self, made, message):
+        with self.subTest(message=message), self.assertRaises(BookError) as found:
+            as_json.parse(made if isinstance(made, bytes) else (made if isinstance(made, str) else json.dumps(made)).encode(), "x.json")
+        self.assertIn(f"x.json: {message}", str(found.exception))
+
+    def test_wrong(self):
+        peer = {"isd_as": "1-2", "interface": 2, "mtu": 1400, "units": 63, "ingress": 9, "egress": 5, "mac": "f0f1f2f3f4f5"}
+
+        def having(**changes):
+            entry = {"isd_as": "1-1", "mtu": 1, "ingress_mtu": 0, "ingress": 0, "egress": 0, "units": 0, "mac": "010203040506", "peers": [peer], **changes}
+            return {"segments": [{"kind": "core", "timestamp": 1, "id": "0001", "entries": [{k: v for k, v in entry.items() if v is not ...}]}]}
+
+        self.assertEqual(len(as_json.parse(json.dumps(having()).encode())), 1)
+        here, peers, segments = "segments[0].entries[0]", layout.MAX_PEERS, layout.MAX_SEGMENTS
+        for made, message in (("{", "Expecting property name"), (b'{"\xff": 1}', "'utf-8' codec can't decode"),
+                              ('{"a": 1, "a": 2}', "'a' stands twice in an object"), ({}, "the document lacks segments"),
+                              ({"segments": [], "more": 1}, "the document has no member 'more', its members are segments"),
+                              ({"segments": {}}, "segments is no array"), ({"segments": [5]}, "segments[0] is no object"),
+                              ({"segments": [{"kind": "up", "timestamp": 1, "id": "0001", "entries": []}]}, "segments[0]: kind is core or non-core, not 'up'"),
+                              (having(mtu=...), f"{here} lacks mtu"), (having(mtu=1.5), f"{here}: mtu is a number, not 1.5"),
+                              (having(mtu=True), f"{here}: mtu is a number, not true"), (having(egress=65536), f"{here}: egress 65536 is above 65535"),
+                              (having(units=-1), f"{here}: units is a number in base ten, not '-1'"), (having(mac=5), f"{here}: mac is a string, not 5"),
+                              (having(mac="0102"), f"{here}: mac is written in 12 hex digits"), (having(peers=None), f"{here}.peers is no array"),
+                              (having(isd_as=281474976710657), f"{here}: isd_as is a string, not 281474976710657"),
+                              (having(peers=[peer] * (peers + 1)), f"{here}.peers[{peers}]: more than {peers} peers"),
+                              ({"segments": having()["segments"] * (segments + 1)}, f"segments[{segments}]: more than {segments} segments"),
+                              ('{"a":' + "[" * 100000, "maximum recursion depth exceeded")):
+            self.wrong(made, message)
+        self.assertEqual(book("check", given=b'{"segments": 1}'), (1, b"", "book: <standard input>: segments is no array\n"))
+
+    def test_check(self):
+        most = layout.MAX_ENTRIES
+        status, out, said = book("check", "--json", given=numbers([(1, entry()), (most + 1, entry())]))
+        self.assertEqual((status, json.loads(out), said), (1, {"accepted": False, "refusal": {
+            "number": 5, "word": "Long", "position": 1, "kind": "non-core", "entry": None, "byte": 18,
+            "words": f"its head counts {most + 1} entries, at most {most} are taken"}}, ""))
+        status, out, said = book("check", "--json", given=bytes(7))
+        self.assertEqual(json.loads(out)["refusal"], {"number": 1, "word": "Cut", "position": None, "kind": None, "entry": None, "byte": 7,
+                                                      "words": "the book has 7 bytes, its sizes alone take 8"})
+        given = f"core timestamp 1 id 0002\n{ENTRY_LINE}\n{PEER_LINE}\n".encode()
+        status, out, said = book("check", "--json", "--now", "0", "--ends", "1-ff00:0:110", "1-3", given=given)
+        self.assertEqual((status, json.loads(out), said), (0, {
+            "accepted": True, "core": 1, "non_core": 0, "entries": 1, "peers": 1, "bytes": 18 + ENTRY.size + PEER.size, "notes": [
+                {"kind": "last-egress", "position": 0, "entry": 0, "peer": None, "words": "egress 5, and a segment ends without one, at 0"},
+                {"kind": "core-peers", "position": 0, "entry": 0, "peer": None, "words": "peers of a core segment yield no edges"},
+                {"kind": "end", "position": None, "entry": None, "peer": None, "words": "destination 1-3 is in no segment"}]}, ""))
+
+
+class NamesOfAses(unittest.TestCase):
+    """Names are shown for ASes and taken in their place."""
+    FILE = ROOT / "examples" / "house.names"
+    HOUSE = ROOT / "examples" / "house.book"
+
+    def test_taken(self):
+        given = ("--program", MODEL, "--names", self.FILE)
+        for run in (book, alone):
+            answer = run("list", *given, *EXAMPLES["house"], self.HOUSE)
+            self.assertEqual(answer[0], 0)
+            self.assertEqual(run("list", *given, "kiln house 3", " control  desk", self.HOUSE), answer)
+        status, out, _ = book("check", "--names", self.FILE, "--ends", "kiln house 3", "1-ff00:0:199", "--now", "0", self.HOUSE)
+        self.assertEqual((status, out.decode().splitlines()[1:]), (0, ["note: destination 1-ff00:0:199 is in no segment"]))
+
+    def test_not_taken(self):
+        with tempfile.TemporaryDirectory() as folder:
+            twice = Path(folder, "names")
+            twice.write_text("1-1 kiln\n1-2 kiln\n")
+            for args, message in ((("--names", self.FILE, "kiln house 4", "control desk"),
+                                   "'kiln house 4' is no ISD-AS and no name of the file of names; near it: 'kiln house 3'"),
+                                  (("--names", twice, "kiln", "1-1"), "'kiln' is the name of 1-1 and 1-2: give the ISD-AS"),
+                                  (("kiln", "1-1"), "'kiln' is no ISD-AS such as 1-ff00:0:110 or 0001ff0000000110; "
+                                                    "names are taken from a file that --names gives"),
+                                  (("--names", "-", "1-1", "1-2"), "standard input is either the book or the file of names")):
+                status, out, said = book("list", "--program", MODEL, *args)
+                self.assertEqual((status, out), (2, b""))
+                self.assertTrue(said.startswith("usage: book list") and said.endswith(f"book list: error: {message}\n"), said)
+            status, _, said = book("check", "--names", Path(folder, "none"), given=bytes(8))
+            self.assertEqual((status, said), (2, f"book: {folder}/none: No such file or directory\n"))
+            for words, reason in ((b"1-1\n", "1-1 without a name that can be shown"), (b"1-1 K\xf6ln\n", "not UTF-8 text")):
+                twice.write_bytes(words)
+                self.assertEqual(book("check", "--names", twice, given=bytes(8)), (2, b"", f"book: {twice}:1: {reason}\n"))
+
+    def test_an_isd_as_is_no_name(self):
+        self.assertEqual(names.resolve("1-2", {1: "1-2"}), 1 << 48 | 2)
+
+    def test_shown(self):
+        status, out, _ = book("decode", "--notes", "--names", self.FILE, self.HOUSE)
+        self.assertEqual((status, out.decode().splitlines()[0]), (0, "# position 0: 2 entries, carrier North, core (1-ff00:0:110) to "
+                                                                  "carrier South, core (1-ff00:0:120), issued 2026-01-01T06:00:00Z"))
+        status, out, _ = book("list", "--program", MODEL, "--names", self.FILE, *EXAMPLES["house"], self.HOUSE)
+        self.assertIn("1-ff00:0:131#2  kiln house 3\n", out.decode())
 
 
 class Listing(unittest.TestCase):
@@ -356,6 +653,18 @@ if 0001ff0000000110 5      1-ff00:0:110#5
                 if plain.startswith("if "):
                     self.assertEqual(isd_as.parse(named.split()[3].split("#")[0]), int(plain.split()[1], 16))
 
+    def test_nothing_found(self):
+        house, names = ROOT / "examples" / "house.book", ROOT / "examples" / "house.names"
+        for ends, reasons in ((("1-ff00:0:131", "1-5"), ["destination 1-5 is in no segment"]),
+                              (("1-6", "1-5"), ["source 1-6 is in no segment", "destination 1-5 is in no segment"]),
+                              (("1-ff00:0:131", "1-ff00:0:131"),
+                               ["source and destination are both kiln house 3 (1-ff00:0:131), and no path leads from an AS to itself"]),
+                              # Both are in segments, and no chain joins them.
+                              (("1-ff00:0:121", "1-ff00:0:122"), [])):
+            status, out, said = book("list", "--program", MODEL, "--names", names, *ends, house)
+            self.assertEqual((status, out.decode().splitlines(), said), (0, ["solutions 0 paths 0", *(f"nothing found: {r}" for r in reasons)], ""))
+            self.assertEqual(book("list", "--plain", "--program", MODEL, *ends, house), (0, b"solutions 0 paths 0\n", ""))
+
     def test_refused(self):
         status, out, _ = book("list", "--program", MODEL, "1-1", "1-2", given=bytes(7))
         self.assertEqual((status, out.decode()), (1, "refused 1 (Cut), at byte 7: the book has 7 bytes, its sizes alone take 8\n"))
@@ -365,11 +674,11 @@ if 0001ff0000000110 5      1-ff00:0:110#5
 
     def test_program(self):
         status, _, said = book("list", "--program", "/no/such/list", "1-1", "1-2", given=bytes(8))
-        self.assertEqual((status, said), (1, "book: cannot run /no/such/list: No such file or directory\n"))
+        self.assertEqual((status, said), (2, "book: cannot run /no/such/list: No such file or directory\n"))
         status, _, said = book("list", "--program", "/bin/false", "1-1", "1-2", given=bytes(8))
-        self.assertEqual((status, said), (1, "book: /bin/false printed no list (exit status 1)\n"))
+        self.assertEqual((status, said), (2, "book: /bin/false printed no list (exit status 1)\n"))
         status, _, said = book("list", "--program", "/bin/pwd", "1-1", "1-2", given=bytes(8))
-        self.assertEqual((status, said), (1, "book: the program's output is no printed list\n"))
+        self.assertEqual((status, said), (2, "book: the program's output is no printed list\n"))
         for wrong in ("solutions 1 paths 1\n", "solutions 0 paths 0\nif 0001ff0000000111 7\n", "solutions 1 paths 0\n1 cost 1 segments 1 lost\n"):
             with self.assertRaises(BookError):
                 printed.parse(wrong)
@@ -381,7 +690,7 @@ if 0001ff0000000110 5      1-ff00:0:110#5
             shutil.copy(BOOK, tools / "book")
             command = [sys.executable, str(tools / "book"), "list", "--plain", "1-1", "1-2"]
             done = subprocess.run(command, input=bytes(8), capture_output=True, check=False)
-            self.assertEqual(done.returncode, 1)
+            self.assertEqual(done.returncode, 2)
             self.assertIn(f"{tools}/list: build it, or give its path with --program", done.stderr.decode())
             shutil.copy(MODEL, tools / "list")
             done = subprocess.run(command, input=bytes(8), capture_output=True, check=False)
@@ -394,6 +703,173 @@ if 0001ff0000000110 5      1-ff00:0:110#5
                 status, out, said = book(*args)
                 self.assertEqual((status, out), (2, b""))
                 self.assertIn("usage: book", said)
+
+
+@contextlib.contextmanager
+def somebody():
+    """Not as root, who may read and write everything."""
+    if os.geteuid():
+        yield
+        return
+    try:
+        os.seteuid(65534)
+    except OSError:
+        raise unittest.SkipTest("root cannot act as somebody else here") from None
+    try:
+        yield
+    finally:
+        os.seteuid(0)
+
+
+needs_full = unittest.skipUnless(Path("/dev/full").is_char_device(), "there is no device /dev/full")
+
+
+class Robust(unittest.TestCase):
+    """What goes wrong with files and streams is a line on standard error, never a traceback."""
+    HOUSE = ROOT / "examples" / "house.book"
+    UNBUFFERED = {**os.environ, "PYTHONUNBUFFERED": "1"}
+    BUFFERED = {name: value for name, value in os.environ.items() if name != "PYTHONUNBUFFERED"}
+
+    def test_closed_pipe(self):
+        for args in (("decode", self.HOUSE), ("check", self.HOUSE), ("--help",)):
+            reading, writing = os.pipe()
+            os.close(reading)
+            with open(writing, "wb") as out:
+                self.assertEqual(alone(*args, stdout=out), (2, None, "book: <standard output>: Broken pipe\n"))
+
+    @needs_full
+    def test_full_disk(self):
+        for env, args in ((self.BUFFERED, ("decode", self.HOUSE)), (self.BUFFERED, ("list", "--program", MODEL, "1-1", "1-2", self.HOUSE)),
+                          (self.UNBUFFERED, ("check", self.HOUSE)), (self.UNBUFFERED, ("--version",))):
+            with open("/dev/full", "wb") as full:
+                self.assertEqual(alone(*args, stdout=full, env=env), (2, None, "book: <standard output>: No space left on device\n"))
+        with open("/dev/full", "wb") as full:
+            self.assertEqual(alone("check", "/no/such/file", stderr=full), (2, b"", ""))
+            self.assertEqual(alone("check", self.HOUSE, stdout=full, stderr=full), (2, None, ""))
+
+    @needs_full
+    def test_full_device(self):
+        # Never as root: a fault could put a file in the device's place.
+        with somebody():
+            self.assertEqual(book("encode", "-o", "/dev/full", given=b""), (2, b"", "book: /dev/full: No space left on device\n"))
+
+    def test_what_is_no_file_is_not_replaced(self):
+        with tempfile.TemporaryDirectory() as folder:
+            pipe = Path(folder, "pipe")
+            os.mkfifo(pipe)
+            reading = os.open(pipe, os.O_RDONLY | os.O_NONBLOCK)
+            try:
+                self.assertEqual(book("encode", "-o", pipe, given=b""), (0, b"", ""))
+                self.assertTrue(pipe.is_fifo())
+                self.assertEqual(os.read(reading, 100), bytes(8))
+            finally:
+                os.close(reading)
+
+    def test_closed_streams(self):
+        for closed, args, answer in ((0, ("check",), (2, b"", "book: <standard input>: Bad file descriptor\n")),
+                                     (1, ("check", self.HOUSE), (2, b"", "book: <standard output>: Bad file descriptor\n")),
+                                     (2, ("check", "/no/such/file"), (2, b"", ""))):
+            self.assertEqual(alone(*args, preexec_fn=lambda: os.close(closed)), answer)
+        with tempfile.TemporaryDirectory() as folder:
+            self.assertEqual(alone("decode", self.HOUSE, "-o", Path(folder, "x.txt"), preexec_fn=lambda: os.close(1)), (0, b"", ""))
+
+    def test_letters(self):
+        """Names with umlauts where the locale, or the stream, has only ASCII."""
+        plain = {"LC_ALL": "C", "PYTHONCOERCECLOCALE": "0", "PYTHONUTF8": "0"}
+        with tempfile.TemporaryDirectory() as folder:
+            names, picture = Path(folder, "names"), Path(folder, "x.dot")
+            names.write_text("1-ff00:0:131 Köln\n1-ff00:0:141 Desk\n", encoding="utf-8")
+            for env, shown in (({"LC_ALL": "C"}, "Köln".encode()), (plain, b"K\\xf6ln"), ({"PYTHONIOENCODING": "ascii"}, b"K\\xf6ln"),
+                               ({**plain, "PYTHONIOENCODING": "latin-1"}, "Köln".encode("latin-1"))):
+                with self.subTest(env=env):
+                    env = {**self.BUFFERED, **env}
+                    status, out, said = alone("list", "--program", MODEL, "--names", names, "Köln", "Desk", self.HOUSE, env=env)
+                    self.assertEqual((status, said), (0, NO_REASONS))
+                    self.assertIn(b"1-ff00:0:131#2  " + shown, out)
+            status, _, said = alone("check", "Köln", env={**self.BUFFERED, **plain})
+            self.assertEqual((status, said.count("\n")), (2, 1))
+            args = ("draw", "--program", MODEL, "--names", names, "Köln", "Desk", self.HOUSE, "-o", picture, "--title")
+            self.assertEqual(alone(*args, "Züge", env={**self.BUFFERED, **plain}), (0, b"", ""))
+            self.assertIn("Züge", picture.read_text(encoding="utf-8"))
+            status, _, said = book(*args, "Z\udcfcge")
+            self.assertEqual((status, said.splitlines()[-1]), (2, "book draw: error: argument --title: 'Z\\udcfcge' is not UTF-8"))
+
+    def test_interrupted(self):
+        with tempfile.TemporaryDirectory() as folder:
+            started, program = Path(folder, "started"), Path(folder, "list")
+            program.write_text(f"#!/bin/sh\n: > {started}\nexec sleep 60\n")
+            program.chmod(0o755)
+            command = [str(BOOK), "list", "--program", str(program), "1-1", "1-2", str(self.HOUSE)]
+            # A gate that runs in the background may ignore the signal.
+            with subprocess.Popen(command, stdout=subprocess.PIPE, stderr=subprocess.PIPE,
+                                  preexec_fn=lambda: signal.signal(signal.SIGINT, signal.SIG_DFL)) as run:
+                while not started.exists() and run.poll() is None:
+                    time.sleep(0.01)
+                run.send_signal(signal.SIGINT)
+                out, said = run.communicate(timeout=30)
+            self.assertEqual((run.returncode, out, said), (130, b"", b"book: interrupted\n"))
+
+    def test_files_that_cannot_be_read(self):
+        long = "x" * 256
+        for name, reason in (("/no/such/file", "No such file or directory"), ("/", "Is a directory"), (f"{self.HOUSE}/x", "Not a directory"),
+                             (long, "File name too long"), ("/proc/self/mem", "Input/output error"),
+                             ("/dev/zero", "more than 16777216 bytes, which no book has")):
+            for args in (("check", name), ("encode", name), ("decode", "--names", name)):
+                self.assertEqual(book(*args), (2, b"", f"book: {name}: {reason}\n"))
+
+    def test_files_that_cannot_be_written(self):
+        for name, reason in (("/no/such/x", "No such file or directory"), ("/", "Is a directory"), (f"{self.HOUSE}/x", "Not a directory")):
+            self.assertEqual(book("decode", self.HOUSE, "-o", name), (2, b"", f"book: {name}: {reason}\n"))
+
+    def test_permissions(self):
+        with tempfile.TemporaryDirectory() as folder:
+            closed, kept, open_one = Path(folder, "closed"), Path(folder, "kept"), Path(folder, "open")
+            for file, mode in ((closed, 0), (kept, 0o444), (open_one, 0o666)):
+                file.write_bytes(b"old")
+                file.chmod(mode)
+            os.chmod(folder, 0o777)
+            with somebody():
+                if not os.access(open_one, os.W_OK, effective_ids=True):
+                    self.skipTest("only root can reach the folder for temporary files")
+                self.assertEqual(book("check", closed), (2, b"", f"book: {closed}: Permission denied\n"))
+                self.assertEqual(book("decode", "-o", kept, given=bytes(8)), (2, b"", f"book: {kept}: Permission denied\n"))
+            self.assertEqual(kept.read_bytes(), b"old")
+            os.chmod(folder, 0o555)
+            with somebody():
+                # Nothing can stand beside it, but the file itself may be written.
+                self.assertEqual(book("encode", "-o", open_one, given=b""), (0, b"", ""))
+                new = Path(folder, "new")
+                self.assertEqual(book("encode", "-o", new, given=b""), (2, b"", f"book: {new}: Permission denied\n"))
+            self.assertEqual(open_one.read_bytes(), bytes(8))
+            os.chmod(folder, 0o777)
+
+    def test_whole_or_not_at_all(self):
+        """A limit on the size of files stands in for a disk that runs full."""
+        with tempfile.TemporaryDirectory() as folder:
+            file = Path(folder, "x.txt")
+            limited = {"preexec_fn": lambda: resource.setrlimit(resource.RLIMIT_FSIZE, (100, 100))}
+            for old in (None, "old"):
+                if old:
+                    file.write_text(old)
+                self.assertEqual(alone("decode", self.HOUSE, "-o", file, **limited), (2, b"", f"book: {file}: File too large\n"))
+                self.assertEqual([p.name for p in Path(folder).iterdir()], ["x.txt"] if old else [])
+            self.assertEqual(file.read_text(), "old")
+
+    def test_written_files(self):
+        with tempfile.TemporaryDirectory() as folder:
+            new, there, link = Path(folder, "new"), Path(folder, "there"), Path(folder, "link")
+            there.write_bytes(b"old")
+            there.chmod(0o604)
+            link.symlink_to("there")
+            mask = os.umask(0o027)
+            try:
+                for file in (new, link):
+                    self.assertEqual(book("encode", "-o", file, given=b""), (0, b"", ""))
+            finally:
+                os.umask(mask)
+            self.assertTrue(link.is_symlink())
+            self.assertEqual([(p.read_bytes(), p.stat().st_mode & 0o777) for p in (new, there)], [(bytes(8), 0o640), (bytes(8), 0o604)])
+            self.assertEqual(book("encode", "-o", "-", given=b""), (0, bytes(8), ""))
 
 
 class Drawing(unittest.TestCase):
@@ -436,6 +912,23 @@ class Drawing(unittest.TestCase):
         with self.assertRaisesRegex(BookError, "11 paths are too many"):
             self.picture(wanted=set(range(1, 12)))
 
+    def test_hint(self):
+        def fan(leaves):
+            """A core AS and leaves below it."""
+            return "".join(f"non-core timestamp 1 id 0001\n{entry_line('1-1', 0, k)}{entry_line(f'1-{k + 1}', 1, 0)}" for k in range(1, leaves + 1)).encode()
+
+        with tempfile.TemporaryDirectory() as folder:
+            args = ("draw", "--program", MODEL, "-o", Path(folder, "x.dot"), "1-2")
+            hint = "book: 25 ASes are drawn, more than 24 hardly fit a page: --used draws only the 3 that the paths pass\n"
+            for leaves, more, said in ((23, ("1-3",), ""), (24, ("1-3",), hint), (24, ("1-3", "--used"), ""), (24, ("1-99",), "")):
+                self.assertEqual(book(*args, *more, given=fan(leaves)), (0, b"", said))
+            # Up by 15 ASes and down by as many: --used would draw them all.
+            long = [[f"1-{k}" for k in range(start, start + 30, 2)] + ["1-1"] for start in (2, 3)]
+            words = "".join("non-core timestamp 1 id 0001\n" + "".join(entry_line(a, k and 5, (15 - k) and 6) for k, a in enumerate(reversed(ases)))
+                            for ases in long)
+            self.assertEqual(book(*args, "1-3", given=words.encode()), (0, b"", ""))
+            self.assertEqual(Path(folder, "x.dot").read_text().count(" [label="), 31)
+
     def test_unlisted(self):
         # The middle AS shows no interface, so that the path leaps over it.
         top, middle, leaf = (isd_as.parse(f"1-{k}") for k in (1, 2, 3))
@@ -464,7 +957,7 @@ class Drawing(unittest.TestCase):
             Path(folder, "python3").symlink_to(sys.executable)
             args = ("draw", "--program", MODEL, *EXAMPLES["house"], house, "-o")
             status, _, said = book(*args, Path(folder, "x.svg"), path=folder)
-            self.assertEqual(status, 1)
+            self.assertEqual(status, 2)
             self.assertIn("dot is not installed (package graphviz); -o with a name that ends in .dot", said)
             self.assertEqual(book(*args, Path(folder, "x.dot"), path=folder), (0, b"", ""))
             self.assertTrue(Path(folder, "x.dot").read_text().startswith("graph paths {"))
@@ -489,7 +982,7 @@ class Drawing(unittest.TestCase):
         for words, message in (("1-ff00:0:110\n", "n:1: 1-ff00:0:110 without a name that can be shown"), ("# x\nx y\n", "n:2: 'x' is no ISD-AS such as"),
                                ("1-1 a\n1-1 b\n", "n:2: 1-1 has a name already")):
             with self.assertRaises(BookError) as found:
-                text.names_in(words.encode(), "n")
+                names.read(words.encode(), "n")
             self.assertIn(message, str(found.exception))
 
 
@@ -563,20 +1056,67 @@ class Examples(unittest.TestCase):
     def test_program(self):
         for name, (source, destination) in EXAMPLES.items():
             data = ROOT / "examples" / f"{name}.book"
-            self.assertEqual(book("list", "--plain", source, destination, data), (0, (ROOT / "examples" / f"{name}.list").read_bytes(), ""))
+            self.assertEqual(book("list", "--plain", "--program", LIST, source, destination, data), (0, (ROOT / "examples" / f"{name}.list").read_bytes(), ""))
         for source, destination, data in generate.cases("program", 200):
             given = asked(source, destination, data)
             self.assertEqual(printed.run(str(LIST), source, destination, data), model.printed(given))
 
+    @unittest.skipUnless(os.access(LIST, os.X_OK), "the program list is not built")
+    def test_exit_status_of_the_program(self):
+        """As man/list.1 has it."""
+        done = subprocess.run([LIST], input=b"", capture_output=True, check=False)
+        self.assertEqual((done.returncode, done.stdout), (0, b"refused 1\n"))
+        with open("/dev/full", "wb") as full:
+            self.assertEqual(subprocess.run([LIST], input=WORKED_INPUT, stdout=full, check=False).returncode, 0)
+
+
+class Version(unittest.TestCase):
+    def test_is_that_of_the_makefile(self):
+        [number] = re.findall(r"^VERSION = (\S+)$", (ROOT / "Makefile").read_text(), re.MULTILINE)
+        self.assertEqual(book("--version"), (0, f"book {number}\n".encode(), ""))
+
 
 class Manual(unittest.TestCase):
+    PAGE = (ROOT / "man" / "book.1").read_text().replace("\\-", "-")
+
     def test_commands_and_options(self):
-        page = (ROOT / "man" / "book.1").read_text().replace("\\-", "-")
-        for word in ("encode", "decode", "check", "list", "draw", "--notes", "--plain", "--program", "--names", "--paths", "--used", "--title", "-o"):
-            self.assertIn(word, page)
+        commands = next(a for a in tool.parser()._actions if a.dest == "command").choices
+        before, after = self.PAGE.split(".SH DESCRIPTION")
+        synopsis = re.split(r"^\.B book ", before, flags=re.MULTILINE)[1:]
+        self.assertEqual([part.split()[0] for part in synopsis], [*commands, "--version"])
+        for (name, command), part in zip(commands.items(), synopsis):
+            taken = {option for a in command._actions for option in a.option_strings} - {"-h", "--help"}
+            self.assertEqual(set(re.findall(r"(?<!\S)--?[a-z]+", part)), taken, name)
+            for option in taken:
+                self.assertTrue(re.search(rf"^\.BI? {option}\b", after.split(".SH TEXT")[0], re.MULTILINE), f"{name} {option}")
+
+    def test_numbers(self):
+        for words in (f"Where more than {PAGE} ASes are drawn", f"Without it, the first {MOST}.", f"at most {len(COLOURS)}.", times.written(2**32 - 1)):
+            self.assertIn(words, self.PAGE)
         for number in range(layout.CUT, layout.FULL + 1):
             self.assertIn(layout.WORDS[number], (ROOT / "man" / "list.1").read_text(), number)
+        self.assertIn(".SH EXIT STATUS\nAlways 0,", (ROOT / "man" / "list.1").read_text())
+        exits = self.PAGE[self.PAGE.index(".SH EXIT STATUS"):self.PAGE.index(".SH ENVIRONMENT")]
+        self.assertEqual(re.findall(r"\.B (\d+)\n", exits), ["0", str(BookError.status), str(Trouble.status), str(tool.INTERRUPTED)])
+
+    def test_json(self):
+        """The shapes of the page are those that are written."""
+        segments, accepted, refused = (json.loads(x) for x in re.findall(r"\.RS\n({.*?})\n\.RE", self.PAGE, re.DOTALL))
+        data = layout.write(as_json.parse(json.dumps(segments).encode()))
+        self.assertEqual(json.loads(book("decode", "--json", given=data)[1]), segments)
+        found = json.loads(book("check", "--json", "--now", "2026-01-01T12:00:01", ROOT / "examples" / "house.book")[1])
+        self.assertEqual({**found, "notes": [n for n in found["notes"] if n["position"] == 0]}, accepted)
+        found = json.loads(book("check", "--json", given=numbers([(1, entry()), (layout.MAX_ENTRIES + 1, entry())]))[1])
+        self.assertEqual(found, refused)
+
+    def test_notes(self):
+        section = self.PAGE[self.PAGE.index(".SH NOTES"):self.PAGE.index(".SH EXIT STATUS")]
+        kinds = {kind for line in re.findall(r"\.TP\n\.BR? (.*)", section) for kind in line.replace('", "', "").split()}
+        self.assertEqual(kinds, set(re.findall(r'Note\("([a-z-]+)"', (ROOT / "tools" / "booktext" / "notes.py").read_text())))
 
 
 if __name__ == "__main__":
-    unittest.main()
+    ended = unittest.main(exit=False).result
+    for case, reason in ended.skipped:
+        print(f"skipped: {case.id().partition('.')[2]}: {reason}")
+    sys.exit(not ended.wasSuccessful())

@@ -1,5 +1,6 @@
 //! Finds libcombinator.a: in the folder that COMBINATOR_LIB_DIR names, else where `make lib` writes it, else where
-//! pkg-config says that it is installed.
+//! pkg-config says that it is installed. Where it is not found, what links nothing works all the same: `cargo check`,
+//! `cargo doc`.
 
 use std::{
     env,
@@ -20,9 +21,14 @@ fn named() -> Option<PathBuf> {
     Some(dir)
 }
 
+/// Where `make lib` writes the archive.
+fn build() -> PathBuf {
+    let here = env::var_os("CARGO_MANIFEST_DIR").expect("cargo names the package's folder");
+    Path::new(&here).join("../../build")
+}
+
 fn built() -> Option<PathBuf> {
-    let dir = Path::new(&env::var_os("CARGO_MANIFEST_DIR")?).join("../../build");
-    dir.join(ARCHIVE).is_file().then_some(dir)
+    build().join(ARCHIVE).is_file().then(build)
 }
 
 fn installed() -> Option<PathBuf> {
@@ -40,10 +46,14 @@ fn main() {
         println!("cargo:rerun-if-env-changed={name}");
     }
     println!("cargo:rerun-if-changed=build.rs");
-    let Some(dir) = named().or_else(built).or_else(installed) else {
-        panic!("no {ARCHIVE}: run `make lib` in the repository, install it, or name its folder in COMBINATOR_LIB_DIR");
-    };
-    println!("cargo:rerun-if-changed={}", dir.join(ARCHIVE).display());
-    println!("cargo:rustc-link-search=native={}", dir.display());
+    let found = named().or_else(built).or_else(installed);
+    if let Some(dir) = &found {
+        println!("cargo:rustc-link-search=native={}", dir.display());
+    } else {
+        println!("cargo:warning=no {ARCHIVE}: run `make lib` in the repository, install it, or name its folder in COMBINATOR_LIB_DIR");
+    }
+    // An archive that is missing now may be there the next time.
+    let archive = found.unwrap_or_else(build).join(ARCHIVE);
+    println!("cargo:rerun-if-changed={}", archive.display());
     println!("cargo:rustc-link-lib=static=combinator");
 }

@@ -25,15 +25,18 @@ thread_local! {
     static PANIC: RefCell<String> = const { RefCell::new(String::new()) };
 }
 
+/// The panic of a solution without interfaces.
+pub const BARE: &str = "edges are checked to be not empty";
+
 /// What `PathSolution::path` came to.
-enum Came {
+pub enum Came {
     Path(ScionPath),
     Loop,
     Refused,
     Panic(String),
 }
 
-fn path_of<E: Entry>(s: &PathSolution<'_, E>) -> Came {
+pub fn path_of<E: Entry>(s: &PathSolution<'_, E>) -> Came {
     match catch_unwind(AssertUnwindSafe(|| s.path())) {
         Ok(Ok(Some((p, _)))) => Came::Path(p),
         Ok(Ok(None)) => Came::Loop,
@@ -158,13 +161,13 @@ fn block(out: &mut String, case: &[u8], flags: Flags) {
             Came::Path(p) => assert!(print_path(out, &p) == directions),
             Came::Loop => out.push_str("loop\n"),
             Came::Refused => out.push_str("encode-refused\n"),
-            Came::Panic(m) if m == "edges are checked to be not empty" => out.push_str("panic\n"),
+            Came::Panic(m) if m == BARE => out.push_str("panic\n"),
             Came::Panic(m) => writeln!(out, "other-panic {m}").unwrap(),
         }
     }
 }
 
-fn split(case: &[u8]) -> Option<(IsdAsn, IsdAsn, &[u8])> {
+pub fn split(case: &[u8]) -> Option<(IsdAsn, IsdAsn, &[u8])> {
     let (s, rest) = case.split_first_chunk::<{ book::AS_SIZE }>()?;
     let (d, book) = rest.split_first_chunk::<{ book::AS_SIZE }>()?;
     Some((
@@ -174,7 +177,7 @@ fn split(case: &[u8]) -> Option<(IsdAsn, IsdAsn, &[u8])> {
     ))
 }
 
-fn cases(mut bytes: &[u8]) -> Vec<&[u8]> {
+pub fn cases(mut bytes: &[u8]) -> Vec<&[u8]> {
     let mut out = Vec::new();
     while let Some((n, rest)) = bytes.split_first_chunk::<4>() {
         let n = u32::from_be_bytes(*n) as usize;
@@ -334,12 +337,18 @@ pub fn main() {
             }
         }
         ["--bench", file, n] => bench(file, n.parse().expect("a number"), each),
+        #[cfg(feature = "glue")]
+        ["--glue", file] => {
+            let bytes = std::fs::read(file).expect("the batch file is readable");
+            println!("{}", crate::glue::hold(cases(&bytes)));
+        }
         ["--given"] => print!("{}", include_str!(concat!(env!("OUT_DIR"), "/given.txt"))),
         _ => {
             eprintln!(
                 "oracle [--no-wrapper] [--numbers] < CASE\n\
                  oracle --batch [FILE] [--no-wrapper] [--numbers]\n\
                  oracle --bench FILE N [--each]\n\
+                 oracle --glue FILE, with the feature glue\n\
                  oracle --given"
             );
             std::process::exit(2);

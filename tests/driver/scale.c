@@ -22,8 +22,9 @@ static void line(const char *what, unsigned size, size_t book_len)
         if (answer != COMBINATOR_FULL && COMBINATOR_IS_REFUSAL(answer))
             fail("%s %u: answer %" PRIu32, what, size, answer);
         for (i = 0; !COMBINATOR_IS_REFUSAL(answer) && i < answer; i++)
-            combinator_assemble(AS_SOURCE, AS_DESTINATION, book, book_len, list + COMBINATOR_RECORD_SIZE * i, COMBINATOR_RECORD_SIZE, path,
-                                sizeof path);
+            if (COMBINATOR_IS_REFUSAL(combinator_assemble(AS_SOURCE, AS_DESTINATION, book, book_len, list + COMBINATOR_RECORD_SIZE * i,
+                                                          COMBINATOR_RECORD_SIZE, path, sizeof path)))
+                fail("%s %u: a listed record is refused", what, size);
         assembled = now_ns();
         if (listed - start < listing)
             listing = listed - start;

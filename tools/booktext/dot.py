@@ -2,6 +2,7 @@
 import html
 
 from . import counted, isd_as, times
+from .ends import IN_NO_SEGMENT
 from .picture import PEERING, UNLISTED
 
 MOST_SEGMENTS = 24
@@ -122,7 +123,7 @@ def as_box(picture, a):
     if ends:
         lines.append(font(" and ".join(ends), 11, END, bold=True))
     if a not in picture.known:
-        lines.append(font("in no segment", 11, QUIET))
+        lines.append(font(IN_NO_SEGMENT, 11, QUIET))
     fill = END_FILL if ends else AS_FILL
     edge = END if ends else INK
     width = 3 if ends else 2 if a in picture.core else 1
@@ -223,7 +224,7 @@ def segment_rows(picture):
     rows = "<TR>" + cells([["segment"]], QUIET, 11) + cells([["kind"], ["id"]], QUIET, 11, span=2) + \
            cells([["issued (UTC)"], "timestamp", ["ASes, in construction direction"]], QUIET, 11) + "</TR>"
     for position, s in picture.shown[:MOST_SEGMENTS]:
-        rows += "<TR>" + cells([[position]]) + cells([["core" if s.core else "non-core"], [f"{s.id:04x}"]], span=2) + \
+        rows += "<TR>" + cells([[position]]) + cells([[s.kind], [f"{s.id:04x}"]], span=2) + \
                 cells([[times.written(s.timestamp)], s.timestamp, in_lines([isd_as.written(e.isd_as) for e in s.entries] or ["none"], 100)]) + "</TR>"
     return rows
 

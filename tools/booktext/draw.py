@@ -2,7 +2,7 @@
 import shutil
 import subprocess
 
-from . import BookError
+from . import Trouble
 from .dot import dot_text, in_order, node, skeleton
 
 SUFFIXES = (".svg", ".png", ".pdf", ".dot")
@@ -12,11 +12,11 @@ def run_dot(form, given):
     try:
         done = subprocess.run(["dot", f"-T{form}"], input=given.encode(), capture_output=True, timeout=120, check=False)
     except OSError as wrong:
-        raise BookError(f"cannot run dot: {wrong.strerror}") from None
+        raise Trouble(f"cannot run dot: {wrong.strerror}") from None
     except subprocess.TimeoutExpired:
-        raise BookError("dot gave no picture in 120 seconds: --used draws less") from None
+        raise Trouble("dot gave no picture in 120 seconds: --used draws less") from None
     if done.returncode:
-        raise BookError(f"dot failed: {done.stderr.decode(errors='replace').strip()}")
+        raise Trouble(f"dot failed: {done.stderr.decode(errors='replace').strip()}")
     return done.stdout
 
 
@@ -59,5 +59,5 @@ def render(picture, suffix):
     if suffix == ".dot":
         return settled(picture).encode()
     if not installed():
-        raise BookError("drawing needs Graphviz, and dot is not installed (package graphviz); -o with a name that ends in .dot writes the text for it")
+        raise Trouble("drawing needs Graphviz, and dot is not installed (package graphviz); -o with a name that ends in .dot writes the text for it")
     return run_dot(suffix[1:], settled(picture))

@@ -146,6 +146,9 @@ def of_fields(name, fields, *lists):
                           [(x, list, field(default_factory=list)) for x in lists])
 
 
+# The words for `core` of a segment.
+KINDS = {True: "core", False: "non-core"}
+
 # What a book counts is here the length of a list.
 SEGMENT_FIELDS = tuple(f for f in HEAD.fields if f not in (HEAD.of.entry_count, HEAD.of.body_length))
 ENTRY_FIELDS = tuple(f for f in ENTRY.fields if f != ENTRY.of.peer_count)
@@ -169,6 +172,10 @@ class Entry(of_fields("EntryFields", ENTRY_FIELDS, "peers")):
 @dataclass
 class Segment(of_fields("SegmentFields", SEGMENT_FIELDS, "entries")):
     core: bool = False
+
+    @property
+    def kind(self):
+        return KINDS[self.core]
 
     def body(self):
         return b"".join(e.bytes() for e in self.entries)

@@ -1,11 +1,13 @@
 """What a picture of a book shows: its ASes in levels, the links between them, and the paths to draw."""
 from dataclasses import dataclass, field
 
-from . import BookError, isd_as
+from . import Trouble, ends
+from .names import shown
 
 # Chosen to differ in hue and lightness; each carries white letters, and a path's number stands beside its colour.
 COLOURS = ("#0072b2", "#d55e00", "#00875f", "#b8478a", "#7a5195", "#8c6d00", "#3f8fc0", "#8b1a1a", "#4d4d4d", "#2f6b2f")
 MOST = 8
+PAGE = 24  # ASes: eight in a row, on three levels, can be read on a page
 
 # What joins two interfaces: a core segment, a non-core one, a peer entry; or only a path, where interface ids of the book are 0.
 CORE, PARENT, PEERING, UNLISTED = "core", "parent", "peering", "unlisted"
@@ -30,23 +32,32 @@ class Picture:
         self.drawn = chosen(solutions, wanted)
         self.colours = {s.number: COLOURS[k] for k, s in enumerate(self.drawn)}
         self.links = self.found_links()
-        self.known = {e.isd_as for s in segments for e in s.entries}
+        self.known = ends.known(segments)
         self.core = {e.isd_as for s in segments if s.core for e in s.entries} | {s.entries[0].isd_as for s in segments if s.entries}
-        self.ases = list(dict.fromkeys([e.isd_as for s in segments for e in s.entries] + self.joined()))
+        self.ases = list(dict.fromkeys([e.isd_as for s in segments for e in s.entries] + self.joined(self.links)))
         self.level = self.levels()
         self.shown = list(enumerate(segments))
         if used:
+            self.ases = self.used()
             self.links = [link for link in self.links if link.paths]
-            self.ases = list(dict.fromkeys(self.joined()))
             self.shown = [(k, s) for k, s in self.shown if any(k in link.segments for link in self.links)]
 
-    def joined(self):
+    def joined(self, links):
         """The ASes at the ends of links, and the path's own."""
-        return [a for link in self.links for a, _ in (link.first, link.second)] + [self.source, self.destination]
+        return [a for link in links for a, _ in (link.first, link.second)] + [self.source, self.destination]
+
+    def used(self):
+        """The ASes that the drawn paths pass."""
+        return list(dict.fromkeys(self.joined(link for link in self.links if link.paths)))
+
+    def hint(self):
+        """What draws less, where the picture is more than a page; else nothing."""
+        if len(self.ases) <= PAGE or not self.drawn or len(self.used()) == len(self.ases):
+            return ""
+        return f"{len(self.ases)} ASes are drawn, more than {PAGE} hardly fit a page: --used draws only the {len(self.used())} that the paths pass"
 
     def name(self, number):
-        written = isd_as.written(number)
-        return f"{self.names[number]} ({written})" if number in self.names else written
+        return shown(number, self.names)
 
     def found_links(self):
         links = {}
@@ -97,10 +108,10 @@ def chosen(solutions, wanted):
     if wanted is None:
         return list(with_path.values())[:MOST]
     if len(wanted) > len(COLOURS):
-        raise BookError(f"{len(wanted)} paths are too many to tell apart: at most {len(COLOURS)} are drawn at once")
+        raise Trouble(f"{len(wanted)} paths are too many to tell apart: at most {len(COLOURS)} are drawn at once")
     for number in sorted(wanted):
         if number not in with_path:
             outcome = f"solution {number} is {solutions[number - 1].outcome} and has no path" if number <= len(solutions) else \
                 f"there is no solution {number}: the list has {len(solutions)}"
-            raise BookError(outcome)
+            raise Trouble(outcome)
     return [with_path[number] for number in sorted(wanted)]

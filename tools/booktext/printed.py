@@ -1,9 +1,9 @@
-"""The printed list: running the program `list`, reading what it prints, adding names."""
+"""The printed list: running the program `list`, reading what it prints, writing the same, adding names."""
 import re
 import subprocess
 from dataclasses import dataclass, field
 
-from . import BookError, isd_as, times
+from . import Trouble, isd_as, times
 from .layout import CONSTRUCTION, ENDS, FULL, MAX_EDGES, MAX_SOLUTIONS, PEERING, WORDS
 from .refusal import verdict
 
@@ -27,7 +27,11 @@ class Solution:
     mtu: int = None
     expiry: int = None
     hops: int = None
+    infos: list = field(default_factory=list)       # flags, segment id and timestamp of each
     interfaces: list = field(default_factory=list)  # pairs of AS and interface id
+    # Of the library, and unknown to a printed list: a combinator.Solution and a combinator.Path.
+    record: object = None
+    path: object = None
 
 
 def run(program, source, destination, book):
@@ -36,16 +40,16 @@ def run(program, source, destination, book):
     try:
         done = subprocess.run([program], input=given, capture_output=True, timeout=60, check=False)
     except OSError as wrong:
-        raise BookError(f"cannot run {program}: {wrong.strerror}") from None
+        raise Trouble(f"cannot run {program}: {wrong.strerror}") from None
     except subprocess.TimeoutExpired:
-        raise BookError(f"{program} gave no answer in 60 seconds") from None
+        raise Trouble(f"{program} gave no answer in 60 seconds") from None
     try:
         text = done.stdout.decode("ascii")
     except UnicodeDecodeError:
         text = ""
     if not text.endswith("\n"):
         said = done.stderr.decode(errors="replace").strip()
-        raise BookError(f"{program} printed no list (exit status {done.returncode}){': ' + said if said else ''}")
+        raise Trouble(f"{program} printed no list (exit status {done.returncode}){': ' + said if said else ''}")
     return text
 
 
@@ -60,10 +64,10 @@ def parse(text):
     lines = text.splitlines()
     counts = COUNTS.fullmatch(lines[0]) if lines else None
     if not counts:
-        raise BookError("the program's output is no printed list")
+        raise Trouble("the program's output is no printed list")
     found = []
     for number, line in enumerate(lines[1:], 2):
-        solution, interface = SOLUTION.fullmatch(line), INTERFACE.fullmatch(line)
+        solution, info, interface = (form.fullmatch(line) for form in (SOLUTION, INFO, INTERFACE))
         if solution:
             k, cost, segments, mtu, expiry, hops, other = solution.groups()
             if other:
@@ -72,13 +76,41 @@ def parse(text):
                 found.append(Solution(int(k), int(cost), int(segments), "path", int(mtu), int(expiry), int(hops)))
         elif interface and found:
             found[-1].interfaces.append((int(interface.group(1), 16), int(interface.group(2))))
-        elif not (INFO.fullmatch(line) and found):
-            raise BookError(f"line {number} of the program's output is not one of a printed list: {line}")
+        elif info and found:
+            found[-1].infos.append((int(info.group(1)), int(info.group(2), 16), int(info.group(3))))
+        else:
+            raise Trouble(f"line {number} of the program's output is not one of a printed list: {line}")
     paths = sum(s.outcome == "path" for s in found)
     if (len(found), paths) != tuple(map(int, counts.groups())):
-        raise BookError(f"the program prints {len(found)} solutions, {paths} with a path, and says: {lines[0]}")
+        raise Trouble(f"the program prints {len(found)} solutions, {paths} with a path, and says: {lines[0]}")
     return found
 
+
+# ---- writing: docs/SPECIFICATION.md 10
+
+def refused_line(number):
+    return f"refused {number}\n"
+
+
+def first_line(solutions):
+    return f"solutions {len(solutions)} paths {sum(s.outcome == 'path' for s in solutions)}\n"
+
+
+def solution_lines(s):
+    start = f"{s.number} cost {s.cost} segments {s.segments}"
+    if s.outcome != "path":
+        return f"{start} {s.outcome}\n"
+    lines = [f"{start} mtu {s.mtu} expiry {s.expiry} hops {s.hops}"]
+    lines += [f"info {flags} {ident:04x} {timestamp}" for flags, ident, timestamp in s.infos]
+    lines += [f"if {isd_asn:016x} {ident}" for isd_asn, ident in s.interfaces]
+    return "".join(line + "\n" for line in lines)
+
+
+def written(solutions):
+    return first_line(solutions) + "".join(map(solution_lines, solutions))
+
+
+# ---- words and names
 
 def refusal_words(number, book):
     """A refusal of the program, in the words of `check` where that finds the same."""

@@ -2,7 +2,7 @@
 from dataclasses import dataclass
 
 from . import BookError, counted, layout
-from .layout import (COUNTS, CROWDED, CUT, ENTRY, HEAD, LONG, MAX_BOOK, MAX_ENTRIES, MAX_PEERS, MAX_SEGMENTS, MISFIT, OVERSIZE, PEER, PEERS,
+from .layout import (COUNTS, CROWDED, CUT, ENTRY, HEAD, KINDS, LONG, MAX_BOOK, MAX_ENTRIES, MAX_PEERS, MAX_SEGMENTS, MISFIT, OVERSIZE, PEER, PEERS,
                      SURPLUS, WORDS, head_place)
 
 
@@ -20,7 +20,7 @@ class Refusal:
     def place(self):
         words = []
         if self.position is not None:
-            words.append(f"segment {self.position} ({'core' if self.core else 'non-core'})")
+            words.append(f"segment {self.position} ({KINDS[self.core]})")
         if self.entry is not None:
             words.append(f"entry {self.entry}")
         if self.byte is not None:

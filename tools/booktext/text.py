@@ -11,12 +11,15 @@ of indent for an entry, four for a peer, no comments.
 """
 import re
 
-from . import BookError, counted, isd_as, times
-from .layout import (COUNTS, CROWDED, ENTRY, ENTRY_FIELDS, HEAD, LONG, MAX_BOOK, MAX_ENTRIES, MAX_PEERS, MAX_SEGMENTS, OVERSIZE, PEER, PEER_FIELDS,
-                     PEERS, SEGMENT_FIELDS, WORDS, Entry, Peer, Segment)
+from . import BookError, isd_as, times
+from .layout import (COUNTS, CROWDED, ENTRY, ENTRY_FIELDS, HEAD, KINDS, LONG, MAX_BOOK, MAX_ENTRIES, MAX_PEERS, MAX_SEGMENTS, OVERSIZE, PEER,
+                     PEER_FIELDS, PEERS, SEGMENT_FIELDS, WORDS, Entry, Peer, Segment)
 
 DIGITS = re.compile(r"[0-9]+")
 COMMENT = re.compile(r"(^|\s)#.*")
+
+# What a line begins with: the fields that follow, and the bytes that it makes in a book.
+RECORDS = {**{kind: (SEGMENT_FIELDS, HEAD.size) for kind in KINDS.values()}, "entry": (ENTRY_FIELDS, ENTRY.size), "peer": (PEER_FIELDS, PEER.size)}
 
 
 # ---- writing
@@ -37,19 +40,13 @@ def line(indent, word, record, fields):
     return " " * indent + " ".join(words) + "\n"
 
 
-def note(position, segment):
-    ends = [isd_as.written(e.isd_as) for e in segment.entries]
-    route = f", {ends[0]} to {ends[-1]}" if ends else ""
-    return f"# position {position}: {counted(len(ends), 'entry', 'entries')}{route}, issued {times.written(segment.timestamp)}\n"
-
-
-def written(segments, notes=False):
-    """Canonical text; with notes, a comment above each segment."""
+def written(segments, note=None):
+    """Canonical text; a note, made of position and segment, stands as a comment above each segment."""
     parts = []
     for position, segment in enumerate(segments):
-        if notes:
-            parts.append(note(position, segment))
-        parts.append(line(0, "core" if segment.core else "non-core", segment, SEGMENT_FIELDS))
+        if note:
+            parts.append(f"# {note(position, segment)}\n")
+        parts.append(line(0, segment.kind, segment, SEGMENT_FIELDS))
         for entry in segment.entries:
             parts.append(line(2, "entry", entry, ENTRY_FIELDS))
             parts += [line(4, "peer", peer, PEER_FIELDS) for peer in entry.peers]
@@ -66,18 +63,13 @@ def number_in(field, word):
         if not re.fullmatch(f"[0-9a-fA-F]{{{2 * field.size}}}", word):
             raise ValueError(f"{field.name} is written in {2 * field.size} hex digits, not {word!r}")
         return bytes.fromhex(word) if field.style == "bytes" else int(word, 16)
-    if field.name == "timestamp" and "T" in word:
-        try:
-            number = times.parse(word)
-        except ValueError:
-            raise ValueError(f"{word!r} is no time such as 2026-01-01T06:00:00Z") from None
-    elif DIGITS.fullmatch(word):
-        number = int(word)
-    else:
+    if field == HEAD.of.timestamp:
+        return times.parse(word)
+    if not DIGITS.fullmatch(word):
         raise ValueError(f"{field.name} is a number in base ten, not {word!r}")
-    if not 0 <= number <= field.most:
-        raise ValueError(f"{field.name} {word} is above {field.most}" if number > 0 else f"{field.name} {word} is before 1970")
-    return number
+    if len(word.lstrip("0")) > len(str(field.most)) or int(word) > field.most:
+        raise ValueError(f"{field.name} {word} is above {field.most}")
+    return int(word)
 
 
 def values_in(word, fields, words):
@@ -111,17 +103,20 @@ class Parser:
     def take(self, words):
         """One line's words; ValueError says what is wrong."""
         word, rest = words[0], words[1:]
-        if word in ("core", "non-core"):
-            self.segment(word == "core", values_in(word, SEGMENT_FIELDS, rest))
-            self.size += HEAD.size
-        elif word == "entry":
-            self.entry(values_in(word, ENTRY_FIELDS, rest))
-            self.size += ENTRY.size
+        if word not in RECORDS:
+            *most, last = RECORDS
+            raise ValueError(f"a line begins with {', '.join(most)} or {last}, not {word!r}")
+        self.add(word, values_in(word, RECORDS[word][0], rest))
+
+    def add(self, word, values):
+        """A segment, entry or peer of these values; ValueError says what is wrong with its place or which limit it passes."""
+        if word == "entry":
+            self.entry(values)
         elif word == "peer":
-            self.peer(values_in(word, PEER_FIELDS, rest))
-            self.size += PEER.size
+            self.peer(values)
         else:
-            raise ValueError(f"a line begins with core, non-core, entry or peer, not {word!r}")
+            self.segment(word == KINDS[True], values)
+        self.size += RECORDS[word][1]
         if self.size > MAX_BOOK:
             raise ValueError(limit(OVERSIZE, f"the book has {self.size} bytes up to here, at most {MAX_BOOK} are taken"))
 
@@ -152,13 +147,14 @@ def limit(number, words):
     return f"{words} (refusal {number}, {WORDS[number]})"
 
 
-def lines_of(data, name):
+def lines_of(data, name, error=BookError):
     """Number and words of each line that is not blank."""
     for number, raw in enumerate(data.split(b"\n"), 1):
         try:
-            words = COMMENT.sub("", raw.decode()).split()
+            # The first line may begin with the mark that some editors put there.
+            words = COMMENT.sub("", raw.decode("utf-8-sig" if number == 1 else "utf-8")).split()
         except UnicodeDecodeError:
-            raise BookError(f"{name}:{number}: not UTF-8 text") from None
+            raise error(f"{name}:{number}: not UTF-8 text") from None
         if words:
             yield number, words
 
@@ -172,19 +168,3 @@ def parse(data, name="<text>"):
         except ValueError as wrong:
             raise BookError(f"{name}:{number}: {wrong}") from None
     return parser.segments
-
-
-def names_in(data, name="<names>"):
-    """Names for ASes: lines of an ISD-AS and the words to show for it."""
-    found = {}
-    for number, (word, *rest) in lines_of(data, name):
-        try:
-            known = isd_as.parse(word)
-            if not rest or not "".join(rest).isprintable():
-                raise ValueError(f"{word} without a name that can be shown")
-            if known in found:
-                raise ValueError(f"{word} has a name already")
-            found[known] = " ".join(rest)
-        except ValueError as wrong:
-            raise BookError(f"{name}:{number}: {wrong}") from None
-    return found

@@ -1,7 +1,7 @@
 use crate::{layout::*, HopField, IsdAsn, Refusal};
 
 /// An entry of a segment, without its peers.
-#[derive(Clone, Copy, Debug, PartialEq, Eq, Hash)]
+#[derive(Clone, Copy, Debug, Default, PartialEq, Eq, Hash)]
 pub struct AsEntry {
     /// Its AS.
     pub local: IsdAsn,
@@ -19,7 +19,7 @@ impl AsEntry {
 }
 
 /// A peer of an entry.
-#[derive(Clone, Copy, Debug, PartialEq, Eq, Hash)]
+#[derive(Clone, Copy, Debug, Default, PartialEq, Eq, Hash)]
 pub struct PeerEntry {
     /// The peer's AS.
     pub peer: IsdAsn,
@@ -36,70 +36,93 @@ impl PeerEntry {
     pub const SIZE: usize = PEER_SIZE;
 }
 
+/// A segment as a caller holds it, to be written into a book.
+pub trait PathSegment {
+    /// Its timestamp, in seconds.
+    fn timestamp(&self) -> u32;
+
+    /// Its id.
+    fn id(&self) -> u16;
+
+    /// Its entries in construction order, each with its peers.
+    fn entries(&self) -> impl IntoIterator<Item = (AsEntry, impl IntoIterator<Item = PeerEntry>)>;
+}
+
+impl<S: PathSegment> PathSegment for &S {
+    fn timestamp(&self) -> u32 {
+        (**self).timestamp()
+    }
+
+    fn id(&self) -> u16 {
+        (**self).id()
+    }
+
+    fn entries(&self) -> impl IntoIterator<Item = (AsEntry, impl IntoIterator<Item = PeerEntry>)> {
+        (**self).entries()
+    }
+}
+
 /// Writes a book into a lent buffer: segments with their entries and peers, laid out as the library
 /// reads them.
 ///
-/// It refuses with the library's words what the library would refuse. A segment that is refused is not
-/// written, and the next takes its position.
+/// A segment's kind goes with the call that writes it, and core and non-core segments may follow each
+/// other in any order. In the book the core segments stand first; each kind keeps the order of its calls.
+///
+/// It refuses with the library's words what the library would refuse. A segment that is refused leaves
+/// the book as it was, and the next may be tried.
 ///
 /// ```
-/// use combinator::{AsEntry, BookWriter, HopField, IsdAsn, MAX_BOOK};
+/// use combinator::{list, AsEntry, BookWriter, HopField, IsdAsn, Solution, MAX_BOOK};
 ///
+/// let (src, dst) = (IsdAsn(0x0001_ff00_0000_0111), IsdAsn(0x0001_ff00_0000_0110));
 /// let entry = |local, ingress, egress| AsEntry {
-///     local: IsdAsn(local),
+///     local,
 ///     mtu: 1500,
-///     ingress_mtu: 0,
 ///     hop: HopField { units: 63, ingress, egress, mac: [0; 6] },
+///     ..AsEntry::default()
 /// };
-/// let first = entry(0x0001_ff00_0000_0110, 0, 5);
-/// let leaf = entry(0x0001_ff00_0000_0111, 7, 0);
 /// let mut room = [0; MAX_BOOK];
-/// let mut book = BookWriter::new(&mut room, 0, 1)?;
-/// book.segment(1_000_000, 0x1234, [(first, []), (leaf, [])])?;
-/// assert_eq!(book.finish().len(), 70);
+/// let mut book = BookWriter::new(&mut room)?;
+/// book.non_core(1_000_000, 0x1234, [(entry(dst, 0, 5), []), (entry(src, 7, 0), [])])?;
+/// assert_eq!(list(src, dst, book.finish(), &mut [0; Solution::SIZE])?.len(), 1);
 /// # Ok::<(), combinator::Refusal>(())
 /// ```
 #[derive(Debug)]
 pub struct BookWriter<'a> {
+    /// The bodies of all segments, cores first, after the room of the counts. How many heads stand
+    /// between the two is known at the end, so `finish` moves the bodies to make way.
     room: &'a mut [u8],
-    /// Where the next head goes.
-    head: usize,
-    /// Where the heads end.
-    bodies: usize,
-    /// Where the next body goes.
+    /// Where the bodies of the cores end, and where those of all segments do.
+    cores_end: usize,
     end: usize,
+    /// The heads of all segments, cores first.
+    heads: [[u8; HEAD_SIZE]; MAX_SEGMENTS],
+    cores: usize,
+    count: usize,
 }
 
 impl<'a> BookWriter<'a> {
-    /// A book of so many core and non-core segments, which follow in this order. Those that do not
-    /// follow are left without entries, which yields nothing.
+    /// A book without segments.
     ///
     /// `room` of [`MAX_BOOK`] bytes takes every book. [`Refusal::Oversize`] is answered for a shorter one
     /// too, where the book outgrows it.
-    pub fn new(room: &'a mut [u8], cores: usize, non_cores: usize) -> Result<Self, Refusal> {
-        let count = cores.saturating_add(non_cores);
-        if count > MAX_SEGMENTS {
-            return Err(Refusal::Crowded);
-        }
-        let bodies = COUNTS_SIZE + HEAD_SIZE * count;
+    pub fn new(room: &'a mut [u8]) -> Result<Self, Refusal> {
         let len = room.len().min(MAX_BOOK);
-        let room = &mut room[..len];
-        let heads = room.get_mut(..bodies).ok_or(Refusal::Oversize)?;
-        heads.fill(0);
-        put(heads, COUNTS_CORES, &(cores as u16).to_be_bytes());
-        put(heads, COUNTS_NON_CORES, &(non_cores as u16).to_be_bytes());
+        if len < COUNTS_SIZE {
+            return Err(Refusal::Oversize);
+        }
         Ok(Self {
-            room,
-            head: COUNTS_SIZE,
-            bodies,
-            end: bodies,
+            room: &mut room[..len],
+            cores_end: COUNTS_SIZE,
+            end: COUNTS_SIZE,
+            heads: [[0; HEAD_SIZE]; MAX_SEGMENTS],
+            cores: 0,
+            count: 0,
         })
     }
 
-    /// The next segment: its entries in construction order, each with its peers.
-    ///
-    /// [`Refusal::Crowded`] is answered where there are more segments than [`new`](Self::new) was told.
-    pub fn segment<P>(
+    /// Writes a core segment: its entries in construction order, each with its peers.
+    pub fn core<P>(
         &mut self,
         timestamp: u32,
         id: u16,
@@ -108,13 +131,92 @@ impl<'a> BookWriter<'a> {
     where
         P: IntoIterator<Item = PeerEntry>,
     {
-        if self.head == self.bodies {
+        let len = self.last(timestamp, id, entries)?;
+        // It goes before the non-cores.
+        self.heads[self.cores..self.count].rotate_right(1);
+        self.room[self.cores_end..self.end].rotate_right(len);
+        self.cores += 1;
+        self.cores_end += len;
+        Ok(())
+    }
+
+    /// Writes a non-core segment, as [`core`](Self::core) a core one.
+    pub fn non_core<P>(
+        &mut self,
+        timestamp: u32,
+        id: u16,
+        entries: impl IntoIterator<Item = (AsEntry, P)>,
+    ) -> Result<(), Refusal>
+    where
+        P: IntoIterator<Item = PeerEntry>,
+    {
+        self.last(timestamp, id, entries).map(|_| ())
+    }
+
+    /// Writes each core segment that fits, and hands each that is refused to `left_out`.
+    ///
+    /// A path over a segment that is left out is not found.
+    pub fn cores<S: PathSegment>(
+        &mut self,
+        segments: impl IntoIterator<Item = S>,
+        mut left_out: impl FnMut(S, Refusal),
+    ) {
+        for segment in segments {
+            let written = self.core(segment.timestamp(), segment.id(), segment.entries());
+            if let Err(refusal) = written {
+                left_out(segment, refusal);
+            }
+        }
+    }
+
+    /// Writes each non-core segment that fits, as [`cores`](Self::cores) the core ones.
+    pub fn non_cores<S: PathSegment>(
+        &mut self,
+        segments: impl IntoIterator<Item = S>,
+        mut left_out: impl FnMut(S, Refusal),
+    ) {
+        for segment in segments {
+            let written = self.non_core(segment.timestamp(), segment.id(), segment.entries());
+            if let Err(refusal) = written {
+                left_out(segment, refusal);
+            }
+        }
+    }
+
+    /// The book.
+    pub fn finish(self) -> &'a [u8] {
+        let bodies = COUNTS_SIZE + HEAD_SIZE * self.count;
+        let total = self.end - COUNTS_SIZE;
+        let book = &mut self.room[..bodies + total];
+        book.copy_within(COUNTS_SIZE..self.end, bodies);
+        put(book, COUNTS_SIZE, self.heads[..self.count].as_flattened());
+
+        let non_cores = self.count - self.cores;
+        let counts = &mut book[..COUNTS_SIZE];
+        counts.fill(0);
+        put(counts, COUNTS_CORES, &(self.cores as u16).to_be_bytes());
+        put(counts, COUNTS_NON_CORES, &(non_cores as u16).to_be_bytes());
+        put(counts, COUNTS_BODIES, &(total as u32).to_be_bytes());
+        book
+    }
+
+    /// Writes a segment after all others, and answers the length of its body.
+    fn last<P>(
+        &mut self,
+        timestamp: u32,
+        id: u16,
+        entries: impl IntoIterator<Item = (AsEntry, P)>,
+    ) -> Result<usize, Refusal>
+    where
+        P: IntoIterator<Item = PeerEntry>,
+    {
+        if self.count == MAX_SEGMENTS {
             return Err(Refusal::Crowded);
         }
-        let mut body = Body {
-            room: self.room,
-            at: self.end,
-        };
+        let heads = HEAD_SIZE * (self.count + 1);
+        let left = self.room.len().checked_sub(self.end + heads);
+        let room = &mut self.room[self.end..][..left.ok_or(Refusal::Oversize)?];
+        let mut body = Body { room, at: 0 };
         let mut count = 0;
         for (entry, peers) in entries {
             if count == MAX_ENTRIES {
@@ -123,27 +225,16 @@ impl<'a> BookWriter<'a> {
             body.entry(&entry, peers)?;
             count += 1;
         }
-        let end = body.at;
+        let len = body.at;
 
-        let head = &mut self.room[self.head..][..HEAD_SIZE];
+        let head = &mut self.heads[self.count];
         put(head, HEAD_TIMESTAMP, &timestamp.to_be_bytes());
         put(head, HEAD_ID, &id.to_be_bytes());
         put(head, HEAD_ENTRY_COUNT, &(count as u16).to_be_bytes());
-        put(
-            head,
-            HEAD_BODY_LENGTH,
-            &((end - self.end) as u16).to_be_bytes(),
-        );
-        self.head += HEAD_SIZE;
-        self.end = end;
-        Ok(())
-    }
-
-    /// The book.
-    pub fn finish(self) -> &'a [u8] {
-        let total = (self.end - self.bodies) as u32;
-        put(self.room, COUNTS_BODIES, &total.to_be_bytes());
-        &self.room[..self.end]
+        put(head, HEAD_BODY_LENGTH, &(len as u16).to_be_bytes());
+        self.count += 1;
+        self.end += len;
+        Ok(len)
     }
 }
 

@@ -4,11 +4,18 @@
 //! the best first. [`assemble`] makes the path of one of them. Both write to a lent buffer, and what
 //! they answer borrows it; nothing is allocated and nothing is kept between calls.
 //!
+//! With the feature `alloc`, `combine` takes segments and answers paths that own their bytes.
+//!
 //! README.md shows the switch from scion-sdk's `combine`.
 #![no_std]
 #![warn(missing_docs)]
 
+#[cfg(feature = "alloc")]
+extern crate alloc;
+
 mod book;
+#[cfg(feature = "alloc")]
+mod combine;
 mod isd_asn;
 mod layout;
 mod path;
@@ -16,7 +23,9 @@ mod read;
 mod refusal;
 mod solution;
 
-pub use book::{AsEntry, BookWriter, PeerEntry};
+pub use book::{AsEntry, BookWriter, PathSegment, PeerEntry};
+#[cfg(feature = "alloc")]
+pub use combine::{combine, paths, OwnedPath, OwnedSegment};
 pub use isd_asn::{IsdAsn, ParseError};
 pub use layout::{
     LIST_SIZE, MAX_BOOK, MAX_EDGES, MAX_ENTRIES, MAX_HOPS, MAX_INTERFACES, MAX_PEERS, MAX_SEGMENTS,

@@ -192,7 +192,7 @@ impl InfoField {
 }
 
 /// A hop, as a segment's entry, a peer or a path holds it.
-#[derive(Clone, Copy, Debug, PartialEq, Eq, Hash)]
+#[derive(Clone, Copy, Debug, Default, PartialEq, Eq, Hash)]
 pub struct HopField {
     /// The expiry in units: the hop lives floor((units + 1) × 675 / 2) seconds.
     pub units: u8,

@@ -1,184 +1,188 @@
 //! The writer of books.
 
 use combinator::{
-    list, AsEntry, BookWriter, HopField, IsdAsn, PeerEntry, Refusal, Solution, LIST_SIZE, MAX_BOOK,
-    MAX_ENTRIES, MAX_PEERS, MAX_SEGMENTS,
+    list, AsEntry, BookWriter, IsdAsn, PeerEntry, Refusal, LIST_SIZE, MAX_BOOK, MAX_ENTRIES,
+    MAX_PEERS, MAX_SEGMENTS,
 };
 
-use crate::{file, Reader, AS_SIZE, MAC_SIZE};
+use crate::common::{decode, worked, Entries, Given};
 
-type Entries = Vec<(AsEntry, Vec<PeerEntry>)>;
-
-/// An accepted book: the count of cores, and each segment's timestamp, id and entries.
-fn decode(book: &[u8]) -> (usize, Vec<(u32, u16, Entries)>) {
-    let mut r = Reader(book);
-    let (cores, non_cores) = (r.len(2), r.len(2));
-    r.take(4);
-    let heads: Vec<_> = (0..cores + non_cores)
-        .map(|_| (r.u32(), r.u16(), r.u16(), r.u16()))
-        .collect();
-    let mut segments = Vec::new();
-    for (timestamp, id, count, _) in heads {
-        let entries = (0..count).map(|_| entry(&mut r)).collect();
-        segments.push((timestamp, id, entries));
-    }
-    (cores, segments)
-}
-
-fn entry(r: &mut Reader) -> (AsEntry, Vec<PeerEntry>) {
-    let (local, mtu, ingress_mtu) = (IsdAsn(r.number(AS_SIZE)), r.u32(), r.u16());
-    let (ingress, egress, units) = (r.u16(), r.u16(), r.u8());
-    let hop = HopField {
-        units,
-        ingress,
-        egress,
-        mac: r.mac(),
-    };
+/// A segment of so many entries with so many peers each, which all hold its id.
+fn segment(id: u16, entries: usize, peers: usize) -> Given {
     let entry = AsEntry {
-        local,
-        mtu,
-        ingress_mtu,
-        hop,
+        local: IsdAsn(id.into()),
+        ..AsEntry::default()
     };
-    let peers = r.u8();
-    (entry, (0..peers).map(|_| peer(r)).collect())
-}
-
-fn peer(r: &mut Reader) -> PeerEntry {
-    PeerEntry {
-        peer: IsdAsn(r.number(AS_SIZE)),
-        interface: r.u16(),
-        mtu: r.u16(),
-        hop: HopField {
-            units: r.u8(),
-            ingress: r.u16(),
-            egress: r.u16(),
-            mac: r.mac(),
-        },
+    let peer = PeerEntry {
+        interface: id,
+        ..PeerEntry::default()
+    };
+    Given {
+        timestamp: 1,
+        id,
+        entries: vec![(entry, vec![peer; peers]); entries],
     }
 }
 
-fn rewrite<'a>(book: &[u8], room: &'a mut [u8]) -> Result<&'a [u8], Refusal> {
-    let (cores, segments) = decode(book);
-    let mut writer = BookWriter::new(room, cores, segments.len() - cores)?;
-    for (timestamp, id, entries) in segments {
-        writer.segment(timestamp, id, entries)?;
-    }
-    Ok(writer.finish())
+fn core(book: &mut BookWriter, s: &Given) -> Result<(), Refusal> {
+    book.core(s.timestamp, s.id, s.entries.clone())
 }
 
-#[test]
-fn books_come_back() {
-    let mut room = vec![0xa5; MAX_BOOK];
-    for name in ["worked", "house", "core"] {
-        let book = file(&format!("examples/{name}.book"));
-        assert_eq!(rewrite(&book, &mut room), Ok(&*book), "{name}");
-        // The room may be just as long, and no shorter.
-        let (exact, short) = (book.len(), book.len() - 1);
-        assert_eq!(rewrite(&book, &mut room[..exact]), Ok(&*book));
-        let refused = rewrite(&book, &mut room[..short]);
-        assert_eq!(refused, Err(Refusal::Oversize));
-    }
-    let stored = file("tests/stored/answers.bin");
-    let mut r = Reader(&stored);
-    while !r.0.is_empty() {
-        let len = r.len(4);
-        let book = &r.take(len)[2 * AS_SIZE..];
-        assert_eq!(rewrite(book, &mut room), Ok(book));
-        let solutions = r.len(2);
-        r.take(Solution::SIZE * solutions);
-        for _ in 0..solutions {
-            r.take(1);
-            let len = r.len(2);
-            r.take(len);
-        }
-    }
-}
-
-fn some_entry() -> AsEntry {
-    AsEntry {
-        local: IsdAsn(1),
-        mtu: 1500,
-        ingress_mtu: 0,
-        hop: some_peer().hop,
-    }
-}
-
-fn some_peer() -> PeerEntry {
-    PeerEntry {
-        peer: IsdAsn(2),
-        interface: 3,
-        mtu: 1400,
-        hop: HopField {
-            units: 63,
-            ingress: 4,
-            egress: 5,
-            mac: [6; MAC_SIZE],
-        },
-    }
+fn non_core(book: &mut BookWriter, s: &Given) -> Result<(), Refusal> {
+    book.non_core(s.timestamp, s.id, s.entries.clone())
 }
 
 /// The bytes of a book of so many segments without entries.
 fn empty(segments: usize) -> usize {
     let mut room = vec![0; MAX_BOOK];
-    BookWriter::new(&mut room, 0, segments)
-        .unwrap()
-        .finish()
-        .len()
+    let mut book = BookWriter::new(&mut room).unwrap();
+    for _ in 0..segments {
+        book.core(1, 2, Entries::new()).unwrap();
+    }
+    book.finish().len()
+}
+
+#[test]
+fn worked_is_written() {
+    let [cores, non_cores] = decode(&worked());
+    assert_eq!((cores.len(), non_cores.len()), (0, 1));
+    // The room may be just as long, and no shorter.
+    let mut room = vec![0xa5; worked().len()];
+    let mut book = BookWriter::new(&mut room).unwrap();
+    assert_eq!(non_core(&mut book, &non_cores[0]), Ok(()));
+    assert_eq!(book.finish(), worked());
+    let short = room.len() - 1;
+    let mut book = BookWriter::new(&mut room[..short]).unwrap();
+    assert_eq!(non_core(&mut book, &non_cores[0]), Err(Refusal::Oversize));
+}
+
+/// A refused segment leaves the book as it was: the next one's kind and place are not touched.
+#[test]
+fn refused_segments() {
+    let (first, second) = (segment(1, 2, 1), segment(2, 3, 0));
+    let long = segment(3, MAX_ENTRIES + 1, 0);
+    let peers = segment(4, 2, MAX_PEERS + 1);
+    let mut room = vec![0xa5; MAX_BOOK];
+    let mut book = BookWriter::new(&mut room).unwrap();
+    assert_eq!(core(&mut book, &long), Err(Refusal::Long));
+    assert_eq!(core(&mut book, &peers), Err(Refusal::Peers));
+    assert_eq!(non_core(&mut book, &first), Ok(()));
+    assert_eq!(non_core(&mut book, &long), Err(Refusal::Long));
+    assert_eq!(core(&mut book, &long), Err(Refusal::Long));
+    assert_eq!(core(&mut book, &second), Ok(()));
+    assert_eq!(non_core(&mut book, &peers), Err(Refusal::Peers));
+    let book = book.finish();
+    assert_eq!(decode(book), [vec![second], vec![first]]);
+    assert!(list(IsdAsn(1), IsdAsn(9), book, &mut [0; LIST_SIZE]).is_ok());
+}
+
+/// Calls of both kinds in every order make one book.
+#[test]
+fn any_order() {
+    let cores: Vec<_> = (0..3).map(|i| segment(i, i.into(), 1)).collect();
+    let non_cores: Vec<_> = (3..6).map(|i| segment(i, i.into(), 2)).collect();
+    let mut orders = 0;
+    for order in 0..64u32 {
+        if order.count_ones() != 3 {
+            continue;
+        }
+        let mut room = vec![0xa5; MAX_BOOK];
+        let mut book = BookWriter::new(&mut room).unwrap();
+        let (mut c, mut n) = (cores.iter(), non_cores.iter());
+        for turn in 0..6 {
+            if order >> turn & 1 == 1 {
+                core(&mut book, c.next().unwrap()).unwrap();
+            } else {
+                non_core(&mut book, n.next().unwrap()).unwrap();
+            }
+        }
+        let want = [cores.clone(), non_cores.clone()];
+        assert_eq!(decode(book.finish()), want);
+        orders += 1;
+    }
+    assert_eq!(orders, 20);
+}
+
+/// What fits is written, and the rest is reported.
+#[test]
+fn left_out() {
+    let long = segment(1, MAX_ENTRIES + 1, 0);
+    let peers = segment(2, 1, MAX_PEERS + 1);
+    let fits = segment(3, 2, 1);
+    let mut room = vec![0xa5; MAX_BOOK];
+    let mut book = BookWriter::new(&mut room).unwrap();
+    let mut out = Vec::new();
+    book.cores([&long, &fits, &peers], |s, refusal| {
+        out.push((s.id, refusal))
+    });
+    assert_eq!(out, [(1, Refusal::Long), (2, Refusal::Peers)]);
+    let mut out = Vec::new();
+    book.non_cores([&peers, &long], |s, refusal| out.push((s.id, refusal)));
+    assert_eq!(out, [(2, Refusal::Peers), (1, Refusal::Long)]);
+    // Owned segments are taken too, and come back.
+    book.non_cores([fits.clone(), long.clone()], |s, _| assert_eq!(s, long));
+    assert_eq!(decode(book.finish()), [vec![fits.clone()], vec![fits]]);
+
+    // One that does not fit keeps no smaller one out.
+    let (large, small) = (segment(1, 2, 0), segment(2, 1, 0));
+    let mut room = vec![0; empty(1) + AsEntry::SIZE];
+    let mut book = BookWriter::new(&mut room).unwrap();
+    let mut out = Vec::new();
+    let given = [&large, &small, &small];
+    book.non_cores(given, |s, refusal| out.push((s.id, refusal)));
+    assert_eq!(out, [(1, Refusal::Oversize), (2, Refusal::Oversize)]);
+    assert_eq!(decode(book.finish()), [vec![], vec![small]]);
 }
 
 #[test]
 fn limits() {
-    let mut room = vec![0; 2 * MAX_BOOK];
-    let (many, half) = (MAX_SEGMENTS + 1, MAX_SEGMENTS / 2);
-    for (cores, non_cores) in [
-        (many, 0),
-        (0, many),
-        (half, many - half),
-        (usize::MAX, usize::MAX),
-    ] {
-        let refused = BookWriter::new(&mut room, cores, non_cores).err();
-        assert_eq!(refused, Some(Refusal::Crowded));
-    }
-    assert!(matches!(
-        BookWriter::new(&mut vec![0; empty(0) - 1], 0, 0),
-        Err(Refusal::Oversize)
-    ));
+    let short = BookWriter::new(&mut vec![0; empty(0) - 1]).err();
+    assert_eq!(short, Some(Refusal::Oversize));
 
-    let mut book = BookWriter::new(&mut room, 0, 3).unwrap();
-    let entry = |peers| (some_entry(), vec![some_peer(); peers]);
-    let long = vec![entry(0); MAX_ENTRIES + 1];
-    assert_eq!(book.segment(1, 2, long), Err(Refusal::Long));
-    let peers = vec![entry(MAX_PEERS + 1)];
-    assert_eq!(book.segment(1, 2, peers), Err(Refusal::Peers));
-    let full = vec![entry(MAX_PEERS); MAX_ENTRIES];
-    assert_eq!(book.segment(1, 2, full.clone()), Ok(()));
-    assert_eq!(book.segment(1, 3, Entries::new()), Ok(()));
-    // The third is left without entries.
+    let mut room = vec![0xa5; 2 * MAX_BOOK];
+    let mut book = BookWriter::new(&mut room).unwrap();
+    let full = segment(1, MAX_ENTRIES, MAX_PEERS);
+    assert_eq!(non_core(&mut book, &full), Ok(()));
+    for _ in 1..MAX_SEGMENTS {
+        assert_eq!(core(&mut book, &segment(2, 0, 0)), Ok(()));
+    }
+    assert_eq!(core(&mut book, &segment(3, 0, 0)), Err(Refusal::Crowded));
+    assert_eq!(non_core(&mut book, &full), Err(Refusal::Crowded));
     let book = book.finish();
     let body = MAX_ENTRIES * (AsEntry::SIZE + MAX_PEERS * PeerEntry::SIZE);
-    assert_eq!(book.len(), empty(3) + body);
-    let (_, segments) = decode(book);
-    let counts: Vec<_> = segments.iter().map(|s| s.2.len()).collect();
-    assert_eq!(counts, [MAX_ENTRIES, 0, 0]);
-    let mut slots = vec![0; LIST_SIZE];
-    assert!(list(IsdAsn(1), IsdAsn(9), book, &mut slots).is_ok());
-
-    let mut book = BookWriter::new(&mut room, 1, 0).unwrap();
-    assert_eq!(book.segment(1, 2, [(some_entry(), [])]), Ok(()));
-    assert_eq!(
-        book.segment(1, 2, [(some_entry(), [])]),
-        Err(Refusal::Crowded)
-    );
+    assert_eq!(book.len(), empty(MAX_SEGMENTS) + body);
+    let [cores, non_cores] = decode(book);
+    assert_eq!((cores.len(), non_cores), (MAX_SEGMENTS - 1, vec![full]));
+    assert!(list(IsdAsn(7), IsdAsn(9), book, &mut [0; LIST_SIZE]).is_ok());
 
     // A book's bytes are too few for all segments to be full, however long the room.
-    let mut book = BookWriter::new(&mut room, 0, MAX_SEGMENTS).unwrap();
+    let mut book = BookWriter::new(&mut room).unwrap();
+    let full = segment(1, MAX_ENTRIES, MAX_PEERS);
     let mut written = 0;
-    while book.segment(1, 2, full.clone()) == Ok(()) {
+    while core(&mut book, &full) == Ok(()) {
         written += 1;
     }
-    assert_eq!(written, (MAX_BOOK - empty(MAX_SEGMENTS)) / body);
+    assert_eq!(core(&mut book, &full), Err(Refusal::Oversize));
     let book = book.finish();
-    assert_eq!(book.len(), empty(MAX_SEGMENTS) + written * body);
-    assert!(list(IsdAsn(7), IsdAsn(9), book, &mut slots).is_ok());
+    assert_eq!(book.len(), empty(written) + written * body);
+    assert!(book.len() <= MAX_BOOK && MAX_BOOK < empty(written + 1) + (written + 1) * body);
+    assert!(list(IsdAsn(7), IsdAsn(9), book, &mut [0; LIST_SIZE]).is_ok());
+}
+
+/// A room is filled to its last byte by heads and bodies together.
+#[test]
+fn room_for_heads() {
+    for segments in 1..4 {
+        let exact = empty(segments);
+        let mut room = vec![0; exact];
+        let mut book = BookWriter::new(&mut room).unwrap();
+        for _ in 0..segments {
+            assert_eq!(non_core(&mut book, &segment(1, 0, 0)), Ok(()));
+        }
+        assert_eq!(
+            non_core(&mut book, &segment(1, 0, 0)),
+            Err(Refusal::Oversize)
+        );
+        assert_eq!(book.finish().len(), exact);
+    }
 }

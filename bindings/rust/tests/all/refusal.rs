@@ -1,17 +1,9 @@
-//! Numbers and words of refusals, which stand in include/combinator.h too. Sizes, places and limits are
-//! held to it by tests/layout of the repository.
+//! Numbers, words and texts of refusals.
 
 use combinator::Refusal;
 
-use crate::file;
-
-fn header() -> String {
-    String::from_utf8(file("include/combinator.h")).unwrap()
-}
-
 #[test]
-fn refusals() {
-    let header = header();
+fn numbers_and_words() {
     for (i, refusal) in Refusal::ALL.into_iter().enumerate() {
         let (number, word) = (refusal.number(), refusal.word());
         assert_eq!(usize::from(number), i + 1);
@@ -22,18 +14,8 @@ fn refusals() {
             text.starts_with(&format!("refused {number} {word}: ")),
             "{text}"
         );
-        // The table of the header's comment, and its constants.
-        let row = format!(" *{number:>7} {word:<10}");
-        assert!(header.lines().any(|l| l.starts_with(&row)), "{row}");
-        let define = format!(
-            "#define COMBINATOR_{} (COMBINATOR_REFUSED + {number}u)",
-            word.to_uppercase()
-        );
-        assert!(header.contains(&define), "{define}");
     }
     assert_eq!(Refusal::from_number(0), None);
-    let named = |l: &&str| l.contains(" (COMBINATOR_REFUSED + ");
-    assert_eq!(header.lines().filter(named).count(), Refusal::ALL.len());
 }
 
 /// Refusals and text errors serve where errors are boxed.

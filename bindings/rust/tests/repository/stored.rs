@@ -1,15 +1,16 @@
 //! The files of tests/stored: answers of the Rust, and refusals.
 
-use combinator::{
-    assemble, list, Assembled, IsdAsn, Path, Refusal, Solution, LIST_SIZE, MAX_EDGES,
+use combinator::{assemble, list, Assembled, IsdAsn, Path, Refusal, Solution, LIST_SIZE};
+
+use crate::{
+    common::{Reader, AS_SIZE},
+    file,
 };
 
-use crate::{file, Reader, AS_SIZE};
-
-struct Input<'a> {
-    src: IsdAsn,
-    dst: IsdAsn,
-    book: &'a [u8],
+pub struct Input<'a> {
+    pub src: IsdAsn,
+    pub dst: IsdAsn,
+    pub book: &'a [u8],
 }
 
 fn input<'a>(r: &mut Reader<'a>) -> Input<'a> {
@@ -76,27 +77,55 @@ fn grouped(p: &Path) -> bool {
             .all(|s| s.hops().len() == usize::from(s.info.hops))
 }
 
+/// A case of answers.bin.
+pub struct Case<'a> {
+    pub input: Input<'a>,
+    /// The records of the solutions.
+    records: &'a [u8],
+    /// For each solution the answer of assembly, and the path's bytes.
+    pub answers: Vec<(u8, &'a [u8])>,
+}
+
+pub fn cases(stored: &[u8]) -> impl Iterator<Item = Case<'_>> {
+    let mut r = Reader(stored);
+    std::iter::from_fn(move || (!r.0.is_empty()).then(|| case(&mut r)))
+}
+
+fn case<'a>(r: &mut Reader<'a>) -> Case<'a> {
+    let input = input(r);
+    let count = r.len(2);
+    let records = r.take(Solution::SIZE * count);
+    let answer = |_| {
+        let (answer, len) = (r.u8(), r.len(2));
+        (answer, r.take(len))
+    };
+    Case {
+        input,
+        records,
+        answers: (0..count).map(answer).collect(),
+    }
+}
+
+pub fn answers() -> Vec<u8> {
+    file("tests/stored/answers.bin")
+}
+
 #[test]
-fn answers() {
-    let stored = file("tests/stored/answers.bin");
-    let mut r = Reader(&stored);
+fn answers_are_given() {
     let mut slots = vec![0; LIST_SIZE];
     let mut counts = [0; 3];
-    while !r.0.is_empty() {
-        let Input { src, dst, book } = input(&mut r);
-        let count = r.len(2);
-        let want = r.take(Solution::SIZE * count);
+    for case in cases(&answers()) {
+        let Input { src, dst, book } = case.input;
+        let count = case.answers.len();
         slots.fill(0xa5);
         let solutions = list(src, dst, book, &mut slots).unwrap();
         assert_eq!(solutions.len(), count);
         assert_eq!(solutions.iter().len(), count);
-        assert_eq!(solutions.as_bytes(), want);
-        for (place, solution) in solutions.iter().enumerate() {
-            assert_eq!(solutions.get(place), Some(solution));
+        assert_eq!(solutions.as_bytes(), case.records);
+        for (place, (answer, want)) in case.answers.into_iter().enumerate() {
+            let solution = solutions.get(place).unwrap();
+            assert_eq!(solutions.iter().nth(place), Some(solution));
             assert_eq!(solution.as_bytes()[..], record(&solution));
-            let answer = r.u8();
-            let len = r.len(2);
-            let want = r.take(len);
             let mut room = [0xa5; Path::SIZE];
             match assemble(src, dst, book, solution, &mut room).unwrap() {
                 Assembled::Path(p) => {
@@ -108,16 +137,30 @@ fn answers() {
                 Assembled::Loop => assert_eq!(answer, 1),
                 Assembled::Bare => assert_eq!(answer, 2),
             }
-            assert!(zero(&room[len..]));
+            assert!(zero(&room[want.len()..]));
             counts[usize::from(answer)] += 1;
         }
-        assert!(zero(&slots[want.len()..]));
+        assert!(zero(&slots[case.records.len()..]));
     }
     assert!(counts.iter().all(|n| *n > 0), "{counts:?}");
 }
 
+#[cfg(feature = "alloc")]
 #[test]
-fn refusals() {
+fn combined() {
+    for case in cases(&answers()) {
+        let Input { src, dst, book } = case.input;
+        let [cores, non_cores] = crate::common::decode(book);
+        let got = combinator::combine(src, dst, &cores, &non_cores).unwrap();
+        let got: Vec<_> = got.iter().map(|p| p.as_path().as_bytes()).collect();
+        let paths = case.answers.iter().filter(|(answer, _)| *answer == 0);
+        let want: Vec<_> = paths.map(|(_, path)| *path).collect();
+        assert_eq!(got, want);
+    }
+}
+
+#[test]
+fn refusals_are_given() {
     let stored = file("tests/stored/refusals.bin");
     let mut r = Reader(&stored);
     let mut seen = Vec::new();
@@ -140,38 +183,4 @@ fn refusals() {
         }
     }
     assert!(Refusal::ALL.iter().all(|refusal| seen.contains(refusal)));
-}
-
-#[test]
-fn empty_slices() {
-    let (src, dst) = (IsdAsn(1), IsdAsn(2));
-    assert_eq!(list(src, dst, &[], &mut []), Err(Refusal::Cut));
-    assert_eq!(assemble(src, dst, &[], [], &mut []), Err(Refusal::Cut));
-    let book = [0; 8];
-    assert_eq!(list(src, dst, &book, &mut []).map(|s| s.len()), Ok(0));
-    assert_eq!(assemble(src, dst, &book, [], &mut []), Err(Refusal::Small));
-    let mut room = [0; Path::SIZE];
-    assert_eq!(
-        assemble(src, dst, &book, [], &mut room),
-        Err(Refusal::Stranger)
-    );
-    assert_eq!(
-        assemble(
-            src,
-            dst,
-            &book,
-            Solution::from([0xff; Solution::SIZE]),
-            &mut room
-        ),
-        Err(Refusal::Stranger)
-    );
-}
-
-/// Records of any bytes can be looked at.
-#[test]
-fn any_record_is_read() {
-    let solution = Solution::from([0xff; Solution::SIZE]);
-    assert_eq!(solution.cost(), u16::MAX);
-    assert_eq!(solution.edges().len(), MAX_EDGES);
-    assert!(solution.edges().all(|e| e.peer == Some(254)));
 }

@@ -1,20 +1,18 @@
-//! The books of examples/, first of them the worked example of docs/SPECIFICATION.md 10.6.
-
-use std::fmt::Write;
+//! The worked example of docs/SPECIFICATION.md 10.6, and calls with no or any bytes.
 
 use combinator::{
     assemble, list, Assembled, HopField, InfoField, IsdAsn, Path, PathInterface, Refusal, Solution,
-    SolutionEdge, LIST_SIZE,
+    SolutionEdge, LIST_SIZE, MAX_EDGES,
 };
 
-use crate::file;
+use crate::common::worked;
 
-const SRC: IsdAsn = IsdAsn(0x0001_ff00_0000_0111);
-const DST: IsdAsn = IsdAsn(0x0001_ff00_0000_0110);
+pub const SRC: IsdAsn = IsdAsn(0x0001_ff00_0000_0111);
+pub const DST: IsdAsn = IsdAsn(0x0001_ff00_0000_0110);
 
 #[test]
-fn worked() {
-    let book = file("examples/worked.book");
+fn one_path() {
+    let book = worked();
     let mut slots = [0xa5; LIST_SIZE];
     let solutions = list(SRC, DST, &book, &mut slots).unwrap();
     assert_eq!(solutions.len(), 1);
@@ -74,7 +72,7 @@ fn worked() {
 
 #[test]
 fn reversed_ends() {
-    let book = file("examples/worked.book");
+    let book = worked();
     let mut slots = [0; Solution::SIZE];
     let solution = list(DST, SRC, &book, &mut slots).unwrap().get(0).unwrap();
     assert!(solution.edges().all(|e| e.construction));
@@ -84,54 +82,10 @@ fn reversed_ends() {
     assert_eq!((info.id, info.flags()), (0x1234, 1));
 }
 
-/// The printed list: docs/SPECIFICATION.md 10.
-fn printed(src: IsdAsn, dst: IsdAsn, book: &[u8]) -> Result<String, Refusal> {
-    let mut slots = vec![0; LIST_SIZE];
-    let mut room = [0; Path::SIZE];
-    let solutions = list(src, dst, book, &mut slots)?;
-    let mut paths = 0;
-    let mut text = String::new();
-    for (i, solution) in solutions.iter().enumerate() {
-        let (cost, edges) = (solution.cost(), solution.edges().len());
-        write!(text, "{} cost {cost} segments {edges}", i + 1).unwrap();
-        match assemble(src, dst, book, solution, &mut room)? {
-            Assembled::Loop => writeln!(text, " loop").unwrap(),
-            Assembled::Bare => writeln!(text, " bare").unwrap(),
-            Assembled::Path(p) => {
-                paths += 1;
-                let (mtu, expiry, hops) = (p.mtu(), p.expiry(), p.hops().len());
-                writeln!(text, " mtu {mtu} expiry {expiry} hops {hops}").unwrap();
-                for i in p.infos() {
-                    writeln!(text, "info {} {:04x} {}", i.flags(), i.id, i.timestamp).unwrap();
-                }
-                for i in p.interfaces() {
-                    writeln!(text, "if {:016x} {}", i.isd_asn.0, i.id).unwrap();
-                }
-            }
-        }
-    }
-    let count = solutions.len();
-    Ok(format!("solutions {count} paths {paths}\n{text}"))
-}
-
-#[test]
-fn printed_lists() {
-    for (name, src, dst) in [
-        ("worked", "1-ff00:0:111", "1-ff00:0:110"),
-        ("house", "1-ff00:0:131", "1-ff00:0:141"),
-        ("core", "1-ff00:0:111", "2-64498"),
-    ] {
-        let book = file(&format!("examples/{name}.book"));
-        let want = String::from_utf8(file(&format!("examples/{name}.list"))).unwrap();
-        let got = printed(src.parse().unwrap(), dst.parse().unwrap(), &book);
-        assert_eq!(got.as_deref(), Ok(&*want), "{name}");
-    }
-}
-
 #[test]
 fn views_are_shown() {
-    let book = file("examples/worked.book");
-    let mut slots = [0; 32];
+    let book = worked();
+    let mut slots = [0; Solution::SIZE];
     let solutions = list(SRC, DST, &book, &mut slots).unwrap();
     assert_eq!(
         format!("{solutions:?}"),
@@ -144,4 +98,38 @@ fn views_are_shown() {
         text.starts_with("Path(Path { mtu: 1350, expiry: 1021600, first_as: 1-ff00:0:111, "),
         "{text}"
     );
+}
+
+#[test]
+fn empty_slices() {
+    let (src, dst) = (IsdAsn(1), IsdAsn(2));
+    assert_eq!(list(src, dst, &[], &mut []), Err(Refusal::Cut));
+    assert_eq!(assemble(src, dst, &[], [], &mut []), Err(Refusal::Cut));
+    let book = [0; 8];
+    assert_eq!(list(src, dst, &book, &mut []).map(|s| s.len()), Ok(0));
+    assert_eq!(assemble(src, dst, &book, [], &mut []), Err(Refusal::Small));
+    let mut room = [0; Path::SIZE];
+    assert_eq!(
+        assemble(src, dst, &book, [], &mut room),
+        Err(Refusal::Stranger)
+    );
+    assert_eq!(
+        assemble(
+            src,
+            dst,
+            &book,
+            Solution::from([0xff; Solution::SIZE]),
+            &mut room
+        ),
+        Err(Refusal::Stranger)
+    );
+}
+
+/// Records of any bytes can be looked at.
+#[test]
+fn any_record_is_read() {
+    let solution = Solution::from([0xff; Solution::SIZE]);
+    assert_eq!(solution.cost(), u16::MAX);
+    assert_eq!(solution.edges().len(), MAX_EDGES);
+    assert!(solution.edges().all(|e| e.peer == Some(254)));
 }

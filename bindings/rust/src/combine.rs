@@ -1,0 +1,117 @@
+//! Segments in, paths out, in memory that is allocated.
+
+use alloc::{boxed::Box, vec, vec::Vec};
+
+use crate::{
+    assemble, list, AsEntry, Assembled, BookWriter, IsdAsn, Path, PathSegment, PeerEntry, Refusal,
+    LIST_SIZE, MAX_BOOK,
+};
+
+/// A segment that owns its entries.
+#[derive(Clone, Debug, PartialEq, Eq, Hash)]
+pub struct OwnedSegment {
+    /// Its timestamp, in seconds.
+    pub timestamp: u32,
+    /// Its id.
+    pub id: u16,
+    /// Its entries in construction order, each with its peers.
+    pub entries: Vec<(AsEntry, Vec<PeerEntry>)>,
+}
+
+impl PathSegment for OwnedSegment {
+    fn timestamp(&self) -> u32 {
+        self.timestamp
+    }
+
+    fn id(&self) -> u16 {
+        self.id
+    }
+
+    fn entries(&self) -> impl IntoIterator<Item = (AsEntry, impl IntoIterator<Item = PeerEntry>)> {
+        let entries = self.entries.iter();
+        entries.map(|(entry, peers)| (*entry, peers.iter().copied()))
+    }
+}
+
+/// A path that owns its bytes.
+#[derive(Clone, PartialEq, Eq)]
+pub struct OwnedPath(Box<[u8]>);
+
+impl OwnedPath {
+    /// The path, to be looked at.
+    pub fn as_path(&self) -> Path<'_> {
+        Path::new(&self.0)
+    }
+}
+
+impl From<Path<'_>> for OwnedPath {
+    fn from(path: Path<'_>) -> Self {
+        Self(path.as_bytes().into())
+    }
+}
+
+impl core::fmt::Debug for OwnedPath {
+    fn fmt(&self, f: &mut core::fmt::Formatter<'_>) -> core::fmt::Result {
+        self.as_path().fmt(f)
+    }
+}
+
+/// Combines segments into every path from `src` to `dst`, the best first.
+///
+/// It has the shape of scion-sdk's `combine`. Solutions without a path, Loop and Bare, are left out, and
+/// where `src` equals `dst` there are no paths. But paths over the same route are all answered, and what
+/// is above a limit is refused: segments, or more than [`MAX_SOLUTIONS`](crate::MAX_SOLUTIONS) solutions.
+/// The table of README.md, "What differs", has all of it.
+///
+/// To leave out single segments above a limit, write the book with [`BookWriter::cores`] and
+/// [`BookWriter::non_cores`], and ask [`paths`].
+///
+/// ```
+/// use combinator::{combine, AsEntry, HopField, IsdAsn, OwnedSegment};
+///
+/// let (src, dst) = (IsdAsn(0x0001_ff00_0000_0111), IsdAsn(0x0001_ff00_0000_0110));
+/// let entry = |local, ingress, egress| AsEntry {
+///     local,
+///     mtu: 1500,
+///     hop: HopField { units: 63, ingress, egress, mac: [0; 6] },
+///     ..AsEntry::default()
+/// };
+/// let up = OwnedSegment {
+///     timestamp: 1_000_000,
+///     id: 0x1234,
+///     entries: vec![(entry(dst, 0, 5), vec![]), (entry(src, 7, 0), vec![])],
+/// };
+/// let paths = combine(src, dst, &[], &[up])?;
+/// assert_eq!(paths.len(), 1);
+/// assert_eq!(paths[0].as_path().mtu(), 1500);
+/// # Ok::<(), combinator::Refusal>(())
+/// ```
+pub fn combine<S: PathSegment>(
+    src: IsdAsn,
+    dst: IsdAsn,
+    cores: impl IntoIterator<Item = S>,
+    non_cores: impl IntoIterator<Item = S>,
+) -> Result<Vec<OwnedPath>, Refusal> {
+    let mut room = vec![0; MAX_BOOK];
+    let mut book = BookWriter::new(&mut room)?;
+    for s in cores {
+        book.core(s.timestamp(), s.id(), s.entries())?;
+    }
+    for s in non_cores {
+        book.non_core(s.timestamp(), s.id(), s.entries())?;
+    }
+    paths(src, dst, book.finish())
+}
+
+/// Every path from `src` to `dst` of a book, the best first, as [`combine`] answers them.
+pub fn paths(src: IsdAsn, dst: IsdAsn, book: &[u8]) -> Result<Vec<OwnedPath>, Refusal> {
+    let mut slots = vec![0; LIST_SIZE];
+    let mut room = [0; Path::SIZE];
+    let mut paths = Vec::new();
+    for solution in list(src, dst, book, &mut slots)? {
+        if let Assembled::Path(path) = assemble(src, dst, book, solution, &mut room)? {
+            paths.push(path.into());
+        }
+    }
+    Ok(paths)
+}

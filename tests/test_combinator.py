@@ -1,0 +1,438 @@
+#!/usr/bin/env python3
+"""Tests of bindings/python/combinator.py over the shared library, which COMBINATOR_LIBRARY names or which is found. tests/python runs them."""
+import ast
+import ctypes
+import inspect
+import os
+import pickle
+import re
+import subprocess
+import sys
+import tempfile
+import threading
+import typing
+import unittest
+from pathlib import Path as File
+from unittest import mock
+
+HERE = File(__file__).resolve().parent
+ROOT = HERE.parent
+BINDING = ROOT / "bindings" / "python"
+sys.dont_write_bytecode = True
+sys.path[:0] = [str(BINDING), str(HERE / "stored")]
+
+import combinator
+from combinator import (AsEntry, Bare, BookWriter, HopField, InfoField, IsdAsn, Loop, ParseError, Path, PathInterface, PeerEntry,
+                        Refusal, Segment, Solution, SolutionEdge, Solutions)
+from booktext import layout
+import form
+
+# The worked example of docs/SPECIFICATION.md 10.6.
+SRC, DST = IsdAsn(0x0001FF0000000111), IsdAsn(0x0001FF0000000110)
+WORKED = (ROOT / "examples" / "worked.book").read_bytes()
+WORKED_INFO = InfoField(False, False, 2, 0x1336, 1000000)
+WORKED_HOPS = (HopField(63, 7, 0, bytes.fromhex("0a0b0c0d0e0f")), HopField(63, 0, 5, bytes.fromhex("010203040506")))
+
+
+class Examples(unittest.TestCase):
+    def test_worked(self):
+        solutions = combinator.list(SRC, DST, WORKED)
+        self.assertEqual(len(solutions), 1)
+        self.assertEqual(solutions[0].cost, 1)
+        self.assertEqual(solutions[0].edges, (SolutionEdge(position=0, shortcut=0, peer=None, construction=False),))
+        path = combinator.assemble(SRC, DST, WORKED, solutions[0])
+        self.assertEqual((path.mtu, path.expiry, path.first_as, path.last_as), (1350, 1021600, SRC, DST))
+        self.assertEqual(path.infos, (WORKED_INFO,))
+        self.assertEqual(path.hops, WORKED_HOPS)
+        self.assertEqual(path.segments, (Segment(WORKED_INFO, WORKED_HOPS),))
+        self.assertEqual(path.interfaces, (PathInterface(SRC, 7), PathInterface(DST, 5)))
+        self.assertEqual([str(i) for i in path.interfaces], ["1-ff00:0:111#7", "1-ff00:0:110#5"])
+
+    def test_turned(self):
+        solution, = combinator.list(DST, SRC, WORKED)
+        self.assertTrue(solution.edges[0].construction)
+        info, = combinator.assemble(DST, SRC, WORKED, solution).infos
+        self.assertEqual((info.id, info.flags), (0x1234, 1))
+
+    def test_readme(self):
+        words = (BINDING / "README.md").read_text()
+        code, = re.findall(r"```python\n(.*?)```", words, re.S)
+        exec(compile(code.replace('"examples/', f'"{ROOT}/examples/'), "README.md", "exec"), {})
+
+    def test_shown(self):
+        solutions = combinator.list(SRC, DST, WORKED)
+        self.assertEqual(repr(solutions), "Solutions([Solution(cost=1, edges=(SolutionEdge(position=0, shortcut=0, peer=None, construction=False),))])")
+        path = combinator.assemble(SRC, DST, WORKED, solutions[0])
+        self.assertTrue(repr(path).startswith("Path(mtu=1350, expiry=1021600, first_as=1-ff00:0:111, last_as=1-ff00:0:110, segments=("), repr(path))
+
+
+def record(s):
+    """The record of a solution, laid out anew from what its fields say."""
+    return layout.solution(s.cost, *s.edges)
+
+
+def path_record(p):
+    return layout.path(p.mtu, p.expiry, [(i.flags, i.hops, i.id, i.timestamp) for i in p.infos], p.hops, p.interfaces)
+
+
+class Stored(unittest.TestCase):
+    """The files of tests/stored: answers of the Rust, and refusals."""
+
+    def given(self, r):
+        case = r.take(int.from_bytes(r.take(form.FRONT), "big"))
+        return (*layout.ENDS.unpack(case), case[layout.ENDS.size:])
+
+    def test_answers(self):
+        r, seen = form.Reader("answers.bin"), set()
+        while r.at < len(r.data):
+            source, destination, book = self.given(r)
+            count = r.next(form.COUNT).solutions
+            want = r.take(Solution.SIZE * count)
+            solutions = combinator.list(source, destination, book)
+            self.assertEqual((len(solutions), solutions.as_bytes()), (count, want))
+            for solution in solutions:
+                self.assertEqual(record(solution), solution.as_bytes())
+                answer, length = r.next(form.OUTCOME)
+                want = r.take(length)
+                seen.add(answer)
+                found = combinator.assemble(source, destination, book, solution)
+                if answer != layout.PATH:
+                    self.assertIs(found, {layout.LOOP: Loop, layout.BARE: Bare}[answer])
+                    continue
+                self.assertEqual(found.as_bytes(), want)
+                self.assertEqual(path_record(found), want)
+                self.assertEqual((found.first_as, found.last_as), (found.interfaces[0].isd_asn, found.interfaces[-1].isd_asn))
+                self.assertEqual(tuple(s.info for s in found.segments), found.infos)
+                self.assertEqual(tuple(h for s in found.segments for h in s.hops), found.hops)
+                self.assertTrue(all(len(s.hops) == s.info.hops for s in found.segments))
+        self.assertEqual(seen, {layout.PATH, layout.LOOP, layout.BARE})
+
+    def test_refusals(self):
+        r, seen = form.Reader("refusals.bin"), set()
+        while r.at < len(r.data):
+            source, destination, book = self.given(r)
+            call, room, length = r.next(form.CALL)
+            given, number = r.take(length), r.next(form.REFUSAL).number
+            found = 0
+            try:
+                if call == form.LISTING:
+                    combinator.list(source, destination, book, room)
+                else:
+                    combinator.assemble(source, destination, book, given, room)
+            except Refusal as refused:
+                found = refused.number
+                self.assertTrue(str(refused).startswith(f"refused {number} {layout.WORDS[number]}: "), str(refused))
+                self.assertEqual(refused.word, layout.WORDS[number])
+            self.assertEqual(found, number)
+            seen.add(number)
+        self.assertEqual(seen, {0, *range(layout.CUT, layout.STRANGER + 1)})
+
+    def test_every_refusal_has_a_meaning(self):
+        self.assertEqual(set(combinator.MEANINGS), set(layout.WORDS))
+        self.assertEqual(str(Refusal(layout.FULL)), "refused 8 Full: there are more solutions than slots")
+        self.assertEqual((Refusal(99).word, str(Refusal(99))), ("unknown", "refused 99 unknown"))
+        self.assertEqual(pickle.loads(pickle.dumps(Refusal(layout.FULL))).number, layout.FULL)
+
+
+class Text(unittest.TestCase):
+    """ISD-ASes: the texts of bindings/rust/tests/all/text.rs."""
+
+    def texts(self, name):
+        return re.search(rf"fn {name}\(\).*?\n}}", (ROOT / "bindings/rust/tests/all/text.rs").read_text(), re.S)[0]
+
+    def test_both_ways(self):
+        pairs = re.findall(r'\((0x[0-9a-f_]+|[0-9]+|u64::MAX), "(.*?)"\)', self.texts("both_ways"))
+        self.assertGreater(len(pairs), 9)
+        for number, text in pairs:
+            number = 2**64 - 1 if number == "u64::MAX" else int(number, 0)
+            self.assertEqual((str(IsdAsn(number)), repr(IsdAsn(number)), f"{IsdAsn(number)}"), (text, text, text))
+            self.assertEqual(IsdAsn.parse(text), number)
+            self.assertEqual(IsdAsn(number).isd << 48 | IsdAsn(number).asn, number)
+
+    def test_other_texts(self):
+        texts = re.findall(r'^ +"(.*)",$', self.texts("other_texts"), re.M)
+        self.assertGreater(len(texts), 25)
+        for text in texts:
+            with self.subTest(text=text), self.assertRaises(ParseError):
+                IsdAsn.parse(text)
+
+    def test_parts(self):
+        self.assertEqual((SRC.isd, SRC.asn, f"{SRC:016x}"), (1, 0xFF0000000111, "0001ff0000000111"))
+        self.assertEqual((IsdAsn.parse("1-FF00:0:0110"), IsdAsn.parse("2-0:0:1")), (DST, 0x0002000000000001))
+
+
+def rewritten(book):
+    """A book read by tools/booktext and written by BookWriter."""
+    writer = BookWriter()
+    for s in layout.read(book):
+        entries = [(AsEntry(e.isd_as, e.mtu, e.ingress_mtu, HopField(e.units, e.ingress, e.egress, e.mac)),
+                    [PeerEntry(p.isd_as, p.interface, p.mtu, HopField(p.units, p.ingress, p.egress, p.mac)) for p in e.peers]) for e in s.entries]
+        (writer.core if s.core else writer.non_core)(s.timestamp, s.id, entries)
+    return writer.finish()
+
+
+class Books(unittest.TestCase):
+    ENTRY = AsEntry(1, 1500, 0, HopField(63, 4, 5, bytes(layout.MAC_SIZE)))
+    PEER = PeerEntry(2, 3, 1400, HopField(63, 4, 5, bytes(layout.MAC_SIZE)))
+
+    def test_come_back(self):
+        for name in ("worked", "house", "core"):
+            book = (ROOT / "examples" / f"{name}.book").read_bytes()
+            self.assertEqual(rewritten(book), book, name)
+        for case in form.answers():
+            length = int.from_bytes(case[:form.FRONT], "big")
+            book = case[form.FRONT + layout.ENDS.size:form.FRONT + length]
+            self.assertEqual(rewritten(book), book)
+
+    def test_kinds(self):
+        """A segment that is refused shifts none of the others, and kinds may be given in any order."""
+        writer = BookWriter()
+        writer.non_core(7, 8, [(self.ENTRY, [])])
+        with self.assertRaises(Refusal):
+            writer.core(1, 2, [(self.ENTRY, [])] * (layout.MAX_ENTRIES + 1))
+        writer.core(3, 4, [(self.ENTRY, [self.PEER])])
+        found = layout.read(writer.finish())
+        self.assertEqual([(s.core, s.timestamp, s.id, len(s.entries)) for s in found], [(True, 3, 4, 1), (False, 7, 8, 1)])
+
+    def refused(self, number, work, *args):
+        with self.assertRaises(Refusal) as found:
+            work(*args)
+        self.assertEqual(found.exception.number, number)
+
+    def test_limits(self):
+        writer = BookWriter()
+        self.refused(layout.LONG, writer.core, 1, 2, [(self.ENTRY, [])] * (layout.MAX_ENTRIES + 1))
+        self.refused(layout.PEERS, writer.core, 1, 2, [(self.ENTRY, [self.PEER] * (layout.MAX_PEERS + 1))])
+        for _ in range(layout.MAX_SEGMENTS - 1):
+            writer.core(1, 2, [])
+        writer.non_core(1, 2, [])
+        self.refused(layout.CROWDED, writer.core, 1, 2, [])
+        self.refused(layout.CROWDED, writer.non_core, 1, 2, [])
+        self.assertEqual(len(combinator.list(1, 2, writer.finish())), 0)
+
+    def test_oversize(self):
+        full = [(self.ENTRY, [self.PEER] * layout.MAX_PEERS)] * layout.MAX_ENTRIES
+        one = layout.HEAD.size + layout.MAX_ENTRIES * (layout.ENTRY.size + layout.MAX_PEERS * layout.PEER.size)
+        writer = BookWriter()
+        for _ in range((layout.MAX_BOOK - layout.COUNTS.size) // one):
+            writer.non_core(1, 2, full)
+        before = writer.finish()
+        self.refused(layout.OVERSIZE, writer.non_core, 1, 2, full)
+        self.assertEqual(writer.finish(), before)
+        self.assertEqual(len(combinator.list(7, 9, before)), 0)
+
+    def test_values(self):
+        hop = self.ENTRY.hop
+        for wrong, entry in ((ValueError, self.ENTRY._replace(local=1 << 64)), (ValueError, self.ENTRY._replace(mtu=1 << 32)),
+                             (ValueError, self.ENTRY._replace(ingress_mtu=-1)), (TypeError, self.ENTRY._replace(mtu="1500")),
+                             (ValueError, self.ENTRY._replace(hop=hop._replace(units=256))), (ValueError, self.ENTRY._replace(hop=hop._replace(mac=bytes(5)))),
+                             (ValueError, self.ENTRY._replace(hop=hop._replace(mac=bytes(7)))), (TypeError, self.ENTRY._replace(hop=hop._replace(mac=6)))):
+            with self.subTest(entry=entry), self.assertRaises(wrong):
+                BookWriter().core(1, 2, [(entry, [])])
+        with self.assertRaises(ValueError):
+            BookWriter().core(1, 2, [(self.ENTRY, [self.PEER._replace(interface=1 << 16)])])
+        for timestamp, ident in ((1 << 32, 0), (-1, 0), (0, 1 << 16)):
+            with self.assertRaises(ValueError):
+                BookWriter().non_core(timestamp, ident, [])
+
+
+class Arguments(unittest.TestCase):
+    def test_numbers(self):
+        for number in (-1, 1 << 64, 1 << 80):
+            for ends in ((number, DST), (SRC, number)):
+                with self.subTest(ends=ends), self.assertRaises(ValueError):
+                    combinator.list(*ends, WORKED)
+                with self.subTest(ends=ends), self.assertRaises(ValueError):
+                    combinator.assemble(*ends, WORKED, bytes(Solution.SIZE))
+            with self.assertRaises(ValueError):
+                IsdAsn(number)
+        self.assertEqual(len(combinator.list((1 << 64) - 1, 0, WORKED)), 0)
+
+    def test_types(self):
+        for source in ("1-ff00:0:111", 1.0, None, b"1"):
+            with self.subTest(source=source), self.assertRaises(TypeError):
+                combinator.list(source, DST, WORKED)
+        for book in ("book", 8, None, [0] * 8):
+            with self.subTest(book=book), self.assertRaises(TypeError):
+                combinator.list(SRC, DST, book)
+            with self.subTest(record=book), self.assertRaises(TypeError):
+                combinator.assemble(SRC, DST, WORKED, book)
+        with self.assertRaises(TypeError):
+            combinator.list(SRC, DST, WORKED, "room")
+        with self.assertRaises(ValueError):
+            combinator.list(SRC, DST, WORKED, -1)
+
+    def test_buffers(self):
+        want = combinator.list(SRC, DST, WORKED)
+        for made in (bytearray, memoryview):
+            self.assertEqual(combinator.list(SRC, DST, made(WORKED)), want)
+            self.assertIsInstance(combinator.assemble(SRC, DST, made(WORKED), made(want[0].as_bytes())), Path)
+
+    def test_empty(self):
+        for book, record, room, number in ((b"", b"", 0, layout.CUT), (bytes(8), b"", 0, layout.SMALL), (bytes(8), b"", Path.SIZE, layout.STRANGER)):
+            with self.assertRaises(Refusal) as found:
+                combinator.assemble(1, 2, book, record, room)
+            self.assertEqual(found.exception.number, number)
+        self.assertEqual(len(combinator.list(1, 2, bytes(8), 0)), 0)
+
+    def test_records(self):
+        solution = Solution(b"\xff" * Solution.SIZE)
+        self.assertEqual((solution.cost, len(solution.edges), solution.edges[0].peer), (65535, layout.MAX_EDGES, 254))
+        for length in (0, Solution.SIZE - 1, Solution.SIZE + 1):
+            with self.assertRaises(ValueError):
+                Solution(bytes(length))
+        solutions = Solutions(bytes(range(2 * Solution.SIZE)))
+        self.assertEqual((solutions[-1], solutions[:1], list(solutions)), (solutions[1], Solutions(bytes(range(Solution.SIZE))), [solutions[0], solutions[1]]))
+        self.assertEqual(len({solutions[0], solutions[0], solutions[1]}), 2)
+        with self.assertRaises(IndexError):
+            solutions[2]
+
+
+class Library(unittest.TestCase):
+    def run_alone(self, code, folder=BINDING, **environment):
+        """Code in a process of its own, which has loaded nothing."""
+        kept = {k: v for k, v in os.environ.items() if k != combinator.VARIABLE}
+        done = subprocess.run([sys.executable, "-B", "-c", code], env={**kept, "PYTHONPATH": str(folder), **environment}, cwd=HERE,
+                              capture_output=True, check=False, text=True)
+        self.assertEqual(done.stderr, "")
+        return done.stdout
+
+    LISTED = "import combinator; print(len(combinator.list(1, 2, bytes(8))))"
+    MISSING = ("import combinator\ntry:\n    combinator.list(1, 2, bytes(8))\nexcept combinator.LibraryNotFound as wrong:\n    print(wrong)\n"
+               "except combinator.Refusal:\n    print('refused')\n")
+
+    def test_named(self):
+        library = os.environ[combinator.VARIABLE]
+        self.assertEqual(self.run_alone(self.LISTED, COMBINATOR_LIBRARY=library), "0\n")
+        self.assertEqual(self.run_alone(f"import combinator; combinator.load({library!r}); print(len(combinator.list(1, 2, bytes(8))))",
+                                        COMBINATOR_LIBRARY="/no/such.so"), "0\n")
+
+    def test_missing(self):
+        said = self.run_alone(self.MISSING, COMBINATOR_LIBRARY="/no/such.so")
+        self.assertTrue(said.startswith("cannot load /no/such.so: "), said)
+        with tempfile.NamedTemporaryFile(suffix=".so") as empty:
+            said = self.run_alone(self.MISSING, COMBINATOR_LIBRARY=empty.name)
+            self.assertTrue(said.startswith(f"cannot load {empty.name}: "), said)
+        libc = ctypes.util.find_library("c")
+        self.assertEqual(self.run_alone(self.MISSING, COMBINATOR_LIBRARY=libc), f"{libc} has no function combinator_list\n")
+
+    def test_found_beside(self):
+        """As installed: the module and booktext in one folder, the library in the folder above; without it, nothing is found."""
+        with tempfile.TemporaryDirectory() as folder:
+            package = File(folder, "lib", "combinator")
+            package.mkdir(parents=True)
+            (package / "combinator.py").write_bytes((BINDING / "combinator.py").read_bytes())
+            (package / "booktext").symlink_to(ROOT / "tools" / "booktext")
+            without = self.MISSING.replace("import combinator", "import combinator, ctypes.util; ctypes.util.find_library = lambda name: None")
+            said = self.run_alone(without, package)
+            self.assertEqual(said, f"libcombinator.so is neither in {folder}/lib nor where the system looks: build it with make lib, "
+                                   "or name it in COMBINATOR_LIBRARY\n")
+            (package.parent / combinator.NAME).symlink_to(os.environ[combinator.VARIABLE])
+            self.assertEqual(self.run_alone(self.LISTED, package), "0\n")
+
+    def test_found_in_the_repository(self):
+        with tempfile.TemporaryDirectory() as folder:
+            for place in ("bindings", "tools"):
+                File(folder, place).symlink_to(ROOT / place)
+            self.assertEqual(combinator.REPOSITORY, ROOT)
+            with mock.patch.object(combinator, "REPOSITORY", File(folder)), mock.patch.dict(os.environ):
+                del os.environ[combinator.VARIABLE]
+                File(folder, "build").mkdir()
+                File(folder, "build", combinator.NAME).touch()
+                self.assertEqual(combinator._found(None), f"{folder}/build/libcombinator.so")
+
+    def test_header(self):
+        """Every function of the header is known, by its types."""
+        kinds = [(r"uint64_t (\w+)", combinator.AS), (r"const uint8_t \*(\w+), size_t \1_len", combinator.BYTES),
+                 (r"uint8_t \*(\w+), size_t \1_len", combinator.OUT)]
+        words = re.sub(r"/\*.*?\*/", "", (ROOT / "include" / "combinator.h").read_text(), flags=re.S)
+        found = {}
+        for name, given in re.findall(r"\buint32_t\s+(combinator_\w+)\s*\(([^()]*)\)", words):
+            given, found[name] = " ".join(given.split()), ()
+            while given:
+                for form_, kind in kinds:
+                    match = re.match(form_ + r"(, |$)", given)
+                    if match:
+                        break
+                else:
+                    self.fail(f"{name}: no kind of parameter for {given}")
+                given, found[name] = given[match.end():], (*found[name], kind)
+        self.assertEqual(found, combinator.FUNCTIONS)
+
+    @unittest.skipIf("libmodel" in os.environ.get(combinator.VARIABLE, ""), "the model has state: it takes one call at a time")
+    def test_threads(self):
+        """Calls at the same time, each with a book of its own."""
+        cases = [form.answers()[k] for k in range(0, 320, 40)]
+        wrong = []
+
+        def work(case):
+            length = int.from_bytes(case[:form.FRONT], "big")
+            source, destination = layout.ENDS.unpack(case, form.FRONT)
+            book = case[form.FRONT + layout.ENDS.size:form.FRONT + length]
+            count = form.COUNT.unpack(case, form.FRONT + length).solutions
+            at = form.FRONT + length + form.COUNT.size
+            for _ in range(50):
+                if combinator.list(source, destination, book).as_bytes() != case[at:at + Solution.SIZE * count]:
+                    wrong.append(case)
+        threads = [threading.Thread(target=work, args=(case,)) for case in cases]
+        for t in threads:
+            t.start()
+        for t in threads:
+            t.join()
+        self.assertEqual(wrong, [])
+
+
+class Form(unittest.TestCase):
+    FILES = [BINDING / "combinator.py", ROOT / "tools" / "book", *sorted((ROOT / "tools" / "booktext").glob("*.py"))]
+
+    def test_python_3_8(self):
+        for file in self.FILES:
+            ast.parse(file.read_text(), str(file), feature_version=(3, 8))
+
+    @unittest.skipUnless(hasattr(sys, "stdlib_module_names"), "Python 3.10 knows the names of its standard library")
+    def test_standard_library(self):
+        for file in self.FILES:
+            for node in ast.walk(ast.parse(file.read_text())):
+                if isinstance(node, ast.Import):
+                    names = [a.name for a in node.names]
+                else:
+                    names = [node.module] if isinstance(node, ast.ImportFrom) and not node.level else []
+                for name in names:
+                    self.assertIn(name.split(".")[0], sys.stdlib_module_names | {"booktext", "combinator"}, file)
+
+    def test_typed(self):
+        """Every function has the types of all its parameters and of its answer."""
+        def functions(holder):
+            for value in vars(holder).values():
+                value = getattr(value, "fget", None) or getattr(value, "__func__", value)
+                if inspect.isfunction(value) and value.__module__ == "combinator" and value.__name__ != "<lambda>":
+                    yield value
+                elif inspect.isclass(value) and value.__module__ == "combinator" and value is not holder:
+                    yield from functions(value)
+        count = 0
+        for function in functions(combinator):
+            if function.__code__.co_filename != combinator.__file__:
+                continue  # made by NamedTuple
+            names = [p for p in inspect.signature(function).parameters if p not in ("self", "cls")]
+            self.assertEqual({*names, "return"} - set(typing.get_type_hints(function)), set(), function.__qualname__)
+            count += 1
+        self.assertGreater(count, 40)
+
+    def test_names(self):
+        """Names are those of the Rust crate, but for what only Python needs."""
+        crate = (ROOT / "bindings" / "rust" / "src" / "lib.rs").read_text()
+        names = set(re.findall(r"\w+", " ".join(re.findall(r"^pub use (.*?);", crate, re.M | re.S))))
+        names |= set(re.findall(r"^pub (?:fn|enum|struct) (\w+)", crate, re.M))
+        self.assertEqual(set(combinator.__all__) - names, {"Bare", "LibraryNotFound", "Loop", "NoPath", "load"})
+        for name in combinator.__all__:
+            self.assertTrue(hasattr(combinator, name), name)
+
+
+if __name__ == "__main__":
+    if combinator.VARIABLE not in os.environ:
+        try:
+            os.environ[combinator.VARIABLE] = combinator.load()._name
+        except combinator.LibraryNotFound as wrong:
+            print(f"skipped: tests of bindings/python: {wrong}")
+            sys.exit()
+    unittest.main()
