@@ -1,11 +1,14 @@
 #!/usr/bin/env python3
 """Tests of tools/progress, on a terminal: with a stand-in for rt that says what it is told to, and with rt itself on one small crate."""
+import fcntl
 import os
 import pty
 import re
+import select
 import shutil
 import subprocess
 import tempfile
+import time
 import unittest
 from pathlib import Path
 
@@ -84,10 +87,12 @@ class Progress(unittest.TestCase):
         (self.dir / "bin" / "rt").write_text("#!/bin/sh\n" + script)
         (self.dir / "bin" / "rt").chmod(0o755)
 
+    def path(self):
+        return f"{self.dir / 'bin'}{os.pathsep}{os.environ['PATH']}"
+
     def progress(self, *words, **env):
-        path = f"{self.dir / 'bin'}{os.pathsep}{os.environ['PATH']}"
         env.setdefault("PROGRESS", "")
-        return Terminal([PROGRESS, *words], self.dir, PATH=path, **env)
+        return Terminal([PROGRESS, *words], self.dir, PATH=self.path(), **env)
 
     def log(self, name="rt"):
         return (self.dir / "build" / "log" / f"{name}.log").read_text()
@@ -114,12 +119,25 @@ class Progress(unittest.TestCase):
         lines, status = self.progress("rt", "staticlib", "two").rest()
         self.assertEqual((status, lines), (0, ["[  1 left] one: proved (3 s)", "[  0 left] two: proved, and its archive written"]))
 
+    WAITS = "head -n 2 says\nwhile [ ! -e go ]; do sleep 0.05; done\ntail -n +3 says\n"
+
     def test_a_line_comes_as_its_part_ends(self):
-        self.says("head -n 2 says\nwhile [ ! -e go ]; do sleep 0.05; done\ntail -n +3 says\n")
+        self.says(self.WAITS)
         terminal = self.progress("rt", "ci")
         self.assertEqual(terminal.line(), "[  5 left] one: proved (3 s)")
         (self.dir / "go").touch()
         self.assertEqual(terminal.rest()[1], 0)
+
+    def test_a_line_comes_as_its_part_ends_in_a_pipe_too(self):
+        """There Python keeps what it prints, unless it is told not to."""
+        self.says(self.WAITS)
+        env = {**os.environ, "PATH": self.path(), "PROGRESS": "", "PYTHONUNBUFFERED": ""}
+        run = subprocess.Popen([PROGRESS, "rt", "ci"], cwd=self.dir, stdout=subprocess.PIPE, env=env)
+        come, _, _ = select.select([run.stdout], [], [], 10)
+        (self.dir / "go").touch()
+        said = run.communicate()[0].decode().splitlines()
+        self.assertTrue(come, "nothing came before the end")
+        self.assertEqual(said[0], "[  5 left] one: proved (3 s)")
 
     def test_a_failure_shows_its_words_and_names_its_log(self):
         said = "".join(f"word {k}\n" for k in range(100))
@@ -153,6 +171,22 @@ class Progress(unittest.TestCase):
         both = [self.progress("rt", "--last", "last", "ci", PROGRESS=plan), *(self.progress("step", n, "true", PROGRESS=plan) for n in "ab")]
         lines = [line for terminal in both for line in terminal.rest()[0]]
         self.assertEqual(sorted(int(re.match(r"\[ *(\d+) left\]", line)[1]) for line in lines), list(range(8)))
+
+    def test_one_counts_at_a_time(self):
+        """While another counts, a step waits, and then takes the number that the other left."""
+        with open(self.dir / "left", "w+") as f:
+            f.write("9\n")
+            f.flush()
+            fcntl.flock(f, fcntl.LOCK_EX)
+            terminal = self.progress("step", "a", "touch", "ended", PROGRESS=str(self.dir / "left"))
+            while not (self.dir / "ended").exists():
+                time.sleep(0.01)
+            self.assertEqual(select.select([terminal.lines], [], [], 1)[0], [])
+            f.seek(0)
+            f.write("7\n")
+            f.flush()
+            fcntl.flock(f, fcntl.LOCK_UN)
+            self.assertEqual(terminal.rest()[0], ["[  6 left] a: passed (0 s)"])
 
     def test_what_a_step_runs_counts_for_itself(self):
         (self.dir / "left").write_text("2\n")
