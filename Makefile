@@ -108,7 +108,7 @@ build/plain/%.o: tests/driver/%.c $(wildcard tests/driver/*.h) include/combinato
 build/sanitized/%.o: tests/driver/%.c $(wildcard tests/driver/*.h) include/combinator.h
 	@mkdir -p $(@D)
 	$(CC) $(CFLAGS) $(STRICT) $(SANITIZE) -c $< -o $@
-build/libmodel.a: build/plain/model_list.o build/plain/model_assemble.o
+build/libmodel.a: build/plain/model_list.o build/plain/model_routes.o build/plain/model_assemble.o
 	ar rcs $@ $^
 FORCE:
 

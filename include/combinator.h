@@ -1,7 +1,9 @@
-/* combinator.h - SCION path combination: two functions over byte buffers.
+/* combinator.h - SCION path combination: three functions over byte buffers.
  *
  *     combinator_list       lists every way to join the segments of a book into a path from a
  *                           source to a destination: one record for each solution
+ *     combinator_routes     lists each route once: of the solutions whose paths pass the same
+ *                           interfaces, the record of the one that lives longest
  *     combinator_assemble   makes the path of one such record
  *
  * The library needs nothing but memcpy, memset and their like from the C library. It allocates
@@ -13,10 +15,10 @@
  *
  * Answers
  *
- * Below COMBINATOR_REFUSED a number is the answer itself: of combinator_list the count of solutions,
- * 0 to COMBINATOR_MAX_SOLUTIONS; of combinator_assemble COMBINATOR_PATH, COMBINATOR_LOOP or
- * COMBINATOR_BARE. COMBINATOR_REFUSED + N is refusal N, a number that is no count: test an answer
- * before it is used.
+ * Below COMBINATOR_REFUSED a number is the answer itself: of combinator_list the count of
+ * solutions, of combinator_routes the count of routes, both 0 to COMBINATOR_MAX_SOLUTIONS; of
+ * combinator_assemble COMBINATOR_PATH, COMBINATOR_LOOP or COMBINATOR_BARE. COMBINATOR_REFUSED + N
+ * is refusal N, a number that is no count: test an answer before it is used.
  *
  *     count = combinator_list(src, dst, book, book_len, list, sizeof list);
  *     if (COMBINATOR_IS_REFUSAL(count))
@@ -31,13 +33,14 @@
  *      5 Long      a segment with more than COMBINATOR_MAX_ENTRIES entries
  *      6 Peers     an entry with more than COMBINATOR_MAX_PEERS peers
  *      7 Misfit    body lengths do not sum to the total, or a body is not filled exactly
- *      8 Full      (listing) more solutions than slots
+ *      8 Full      (listing, also of routes) more solutions than slots
  *      9 Small     (assembly) the output is under COMBINATOR_PATH_SIZE bytes
  *     10 Stranger  (assembly) the record is not COMBINATOR_RECORD_SIZE bytes, or is no solution of
  *                  this book, source and destination
  *
  * Of several that hold, the one tested first is answered: 3, 1 (the counts themselves), 4, 1, 2, 5
- * over all heads, 7 (the sum), 6 and 7 body by body; then 8 in listing, 9 and 10 in assembly.
+ * over all heads, 7 (the sum), 6 and 7 body by body; then 8 in listing, 9 and 10 in assembly. So
+ * combinator_routes refuses where combinator_list does, and with the same number.
  *
  *
  * Buffers
@@ -62,19 +65,21 @@
  *     best       the order of solutions is by cost; then by their count of edges; then edge by edge:
  *                none before a peer and the smaller index of a peer first, the larger shortcut
  *                first, the smaller fingerprint first; then by position. No two tie
+ *     route      the list of a path's interfaces: their ASes and ids, in the order of travel. A
+ *                carrier that reissues a segment gives a route once more, with another expiry
  *
  *
  * Time, threads and stack
  *
- * Every call ends after a number of steps that the limits of a book bind. The tests hold a listing
- * to COMBINATOR_LIST_NS and an assembly to COMBINATOR_ASSEMBLE_NS, of the thread's own time; the
- * dearest book known took 1.6 ms.
+ * Every call ends after a number of steps that the limits of a book bind. The tests hold a listing,
+ * of solutions or of routes, to COMBINATOR_LIST_NS and an assembly to COMBINATOR_ASSEMBLE_NS, of
+ * the thread's own time; of the dearest books known the solutions took 1.6 ms and the routes 10 ms.
  *
- * There is no state: both functions may be called at the same time from any threads, each call with
+ * There is no state: all functions may be called at the same time from any threads, each call with
  * an output of its own.
  *
- * A call needs at most COMBINATOR_STACK_SIZE bytes of stack: `driver stack` measured 76,719 for
- * combinator_list and 3,767 for combinator_assemble; the constant leaves room above that.
+ * A call needs at most COMBINATOR_STACK_SIZE bytes of stack: `driver stack` measured 76,907 for
+ * combinator_list, 96,411 for combinator_routes and 3,783 for combinator_assemble.
  *
  * The library has unwind tables: a debugger, or backtrace() in a signal handler, passes through it.
  */
@@ -187,7 +192,7 @@ extern "C" {
 #define COMBINATOR_RECORD_SIZE \
     (COMBINATOR_RECORD_HEAD_SIZE + COMBINATOR_MAX_EDGES * COMBINATOR_EDGE_SIZE)
 
-/* An output of combinator_list with every slot. */
+/* An output of combinator_list or combinator_routes with every slot. */
 #define COMBINATOR_LIST_SIZE (COMBINATOR_MAX_SOLUTIONS * COMBINATOR_RECORD_SIZE)
 
 /* A path: a head; its infos; its hops; the AS of each interface; then the id of each interface. */
@@ -265,10 +270,34 @@ uint32_t combinator_list(uint64_t src, uint64_t dst, const uint8_t *book, size_t
                          uint8_t *out, size_t out_len)
     COMBINATOR_CALL COMBINATOR_READS(3, 4) COMBINATOR_WRITES(5, 6);
 
+/* Lists the routes from src to dst of a book into out, each once.
+ *
+ * It goes over the solutions in the order of combinator_list, and leaves out those without a path,
+ * COMBINATOR_LOOP and COMBINATOR_BARE. Two paths are the same route where their lists of interfaces
+ * are equal: the same ASes, the same ids, in the same order. The first of a route keeps its place.
+ * A later one takes over the record at that place only if the expiry of its path is greater than
+ * that of the record held there. So
+ *
+ *     every record has a path, and no two have the same route;
+ *     of the solutions of its route that live longest, a record is that of the first;
+ *     routes stand in the order in which each first appears among the solutions, and so their
+ *     records need not stand in the order of solutions.
+ *
+ * src, dst, book: as for combinator_list.
+ *
+ * out: as for combinator_list. There must be a slot for every solution, also where the routes are
+ * fewer.
+ *
+ * Returns the count of routes, or the refusal of combinator_list with the same arguments:
+ * COMBINATOR_FULL counts solutions. */
+uint32_t combinator_routes(uint64_t src, uint64_t dst, const uint8_t *book, size_t book_len,
+                           uint8_t *out, size_t out_len)
+    COMBINATOR_CALL COMBINATOR_READS(3, 4) COMBINATOR_WRITES(5, 6);
+
 /* Makes the path of a solution into out.
  *
- * src, dst, book: those of the listing. record: COMBINATOR_RECORD_SIZE bytes as listed. A record of
- * any solution is taken, also where listing answers COMBINATOR_FULL.
+ * src, dst, book: those of the listing. record: COMBINATOR_RECORD_SIZE bytes as listed, by either
+ * function. A record of any solution is taken, also where listing answers COMBINATOR_FULL.
  *
  * out: at least COMBINATOR_PATH_SIZE bytes.
  *

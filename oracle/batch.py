@@ -40,23 +40,34 @@ def book(b):
     return sum(s.core for s in segments), segments
 
 
+class Found(list):
+    """The solutions of a case. `combined`: the paths that `combine` answers, `panic`, or None where it was not asked."""
+    combined = None
+
+
 def oracle_blocks(path):
     """For each case its solutions, or where it is undecodable the refusal's number (0 if not printed)."""
-    sols, cur = [], None
+    sols, cur = Found(), None
     with open(path) as f:
         for line in f:
             w = line.split()
             if w[0] == "---":
                 yield sols
-                sols = []
+                sols = Found()
             elif w[0] == "undecodable":
                 sols = int(w[1]) if len(w) > 1 else 0
             elif w[0] == "solutions":
                 pass
             elif w[0] == "edge":
                 cur["edges"].append(edge(w[1:]))
+            elif w[0] == "combined":
+                sols.combined = "panic" if w[1] == "panic" else []
             elif w[0] == "path":
+                if sols.combined is not None:
+                    cur = dict(infos=[], hops=[], ifs=[])
+                    sols.combined.append(cur)
                 cur["verdict"], cur["mtu"], cur["expiry"] = "path", int(w[2]), int(w[4])
+                cur["key"] = w[6] if len(w) > 5 else None
             elif w[0] == "info":
                 cur["infos"].append((int(w[1]), w[2], int(w[3]), int(w[4])))
             elif w[0] == "hop":

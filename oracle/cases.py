@@ -2,12 +2,16 @@
 """The cases made by hand: those that the specification settles by number, and the inputs of docs/DIFFERENCES.md.
 
     cases.py --out FILE        writes them all as a batch
+    cases.py --out FILE --parting WAY    in their place those of differences/ on which the keys of routes part in a way, `finer` or `coarser`
     cases.py --names           their names, one a line, in the batch's order
     cases.py --hex NAME        one case in hex (source, destination, book)
 """
 import argparse
+import glob
+import os
 
 from batch import batch, layout
+from booktext import text
 from booktext.layout import COUNTS, ENDS, MAC_SIZE, MAX_ENTRIES, MAX_SEGMENTS, Entry, Peer, Segment
 
 A, B, C = 0x0001FF0000000111, 0x0001FF0000000110, 0x0001FF0000000112
@@ -69,11 +73,20 @@ case("no interfaces", A, B, [], [seg(e(B), e(A))])
 case("equal ends", A, A, [seg(e(A, 1))])
 
 
+def parting(way):
+    """The books of differences/ of one way, each from A to B."""
+    for name in sorted(glob.glob(os.path.join(os.path.dirname(os.path.abspath(__file__)), "differences", way + "-*.txt"))):
+        with open(name, "rb") as f:
+            segments = text.parse(f.read(), name)
+        yield ENDS.pack(A, B) + layout.book([s for s in segments if s.core], [s for s in segments if not s.core])
+
+
 def main():
     a = argparse.ArgumentParser()
     a.add_argument("--out")
     a.add_argument("--names", action="store_true")
     a.add_argument("--hex")
+    a.add_argument("--parting")
     o = a.parse_args()
     if o.names:
         print("\n".join(CASES))
@@ -81,7 +94,7 @@ def main():
         print(CASES[o.hex].hex())
     if o.out:
         with open(o.out, "wb") as f:
-            f.write(batch(CASES.values()))
+            f.write(batch(parting(o.parting) if o.parting else CASES.values()))
 
 
 if __name__ == "__main__":

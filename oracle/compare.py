@@ -7,7 +7,17 @@ The Rust leaves ties open (equal cost, edge count and, edge by edge, peer, short
 each run of ties is compared as a multiset, and the driver's must go by position. Everything else is
 compared in order, every field. `panic` of the Rust stands for `bare`, `undecodable` for a refusal 1
 to 7, whose number is compared where the oracle printed it (--numbers). `full` must stand where there
-are more solutions than slots, and only there. Exit status 1 if any case differs.
+are more solutions than slots, and only there.
+
+Routes: the driver's must be those that the rule gives over the Rust's solutions, told apart by their
+lists of interfaces. Where the oracle printed what `combine` answers (--combine), that must be what the
+rule gives by the Rust's own key, a path's fingerprint; where the two keys split the paths alike, the
+routes and their paths must be the same. The other cases are counted by the way in which the keys part:
+`finer`, where paths with one list of interfaces have several fingerprints, and `coarser`, where paths
+with one fingerprint have several lists. Where ties are open, so are the order of routes that first
+appear in one run and which of several copies of one run is kept.
+
+Exit status 1 if any case differs.
 """
 import argparse
 import sys
@@ -17,19 +27,22 @@ from itertools import groupby
 from batch import Edge, driver_blocks, edge, layout, oracle_blocks, tie_key
 
 
+def path_words(s):
+    """The driver's words for a path of the oracle."""
+    w = [s["mtu"], s["expiry"]]
+    for part in ("infos", "hops", "ifs"):
+        for x in s[part]:
+            w += x
+    return w
+
+
 def line(s):
     """The driver's line for a solution of the oracle."""
     w = [s["cost"], s["n"]]
     for e in s["edges"]:
         w += e._replace(peer="-" if e.peer is None else e.peer)
     if s["verdict"] == "path":
-        w += [s["mtu"], s["expiry"]]
-        for i in s["infos"]:
-            w += i
-        for h in s["hops"]:
-            w += h
-        for f in s["ifs"]:
-            w += f
+        w += path_words(s)
     else:
         w.append({"panic": "bare"}.get(s["verdict"], s["verdict"]))
     return " ".join(map(str, w))
@@ -59,9 +72,108 @@ def runs(lines, keys):
     return out
 
 
+def interfaces(s):
+    """By what routes are told apart here."""
+    return tuple(s["ifs"])
+
+
+def fingerprint(s):
+    """By what `combine` tells them apart."""
+    return s["key"]
+
+
+def classes(a, key):
+    """The routes of the oracle's solutions by a key: of each the run of ties in which it first appears, and the paths of which one must be
+    held, those of the greatest expiry in the first run that has one."""
+    ks = [tie_key(s["cost"], s["edges"]) for s in a]
+    found = {}
+    for number, (_, run) in enumerate(runs(a, ks)):
+        for s in run:
+            if s["verdict"] == "path":
+                found.setdefault(key(s), []).append((number, s))
+    routes = {}
+    for k, members in found.items():
+        most = max(s["expiry"] for _, s in members)
+        held = min(number for number, s in members if s["expiry"] == most)
+        routes[k] = members[0][0], [path_words(s) for number, s in members if s["expiry"] == most and number == held]
+    return routes
+
+
+def not_routes(routes, paths, key):
+    """Why the paths, in order, are not the routes; None where they are."""
+    keys = [key(s) for s in paths]
+    if len(set(keys)) != len(keys):
+        return "a route twice"
+    if set(keys) != set(routes):
+        return "other routes"
+    firsts = [routes[k][0] for k in keys]
+    if firsts != sorted(firsts):
+        return "routes in another order"
+    if any(path_words(s) not in routes[k][1] for k, s in zip(keys, paths)):
+        return "another copy of a route"
+    return None
+
+
+def held_by_position(solutions):
+    """The rule itself, over solutions in order: a key that is there keeps its place. The index of what is held for each route."""
+    held = {}
+    for i, s in enumerate(solutions):
+        if s["verdict"] == "path" and (interfaces(s) not in held or s["expiry"] > solutions[held[interfaces(s)]]["expiry"]):
+            held[interfaces(s)] = i
+    return list(held.values())
+
+
+def by_position(a, lines):
+    """The oracle's solutions in the order of the driver's lines, which are the same but for the order of ties."""
+    at = {line(s): s for s in a}
+    return [at[l] for l in lines]
+
+
+def routes_differ(a, b, said, count):
+    """Why the routes that the driver says are not the Rust's; None where they are. b are the driver's lines of solutions."""
+    if said[:1] == ["refused"]:
+        return "routes refused"
+    numbers = [int(w) - 1 for w in said]
+    count["routes"] += len(numbers)
+    solutions = by_position(a, b)
+    here = classes(a, interfaces)
+    paths = [solutions[i] for i in numbers]
+    why = not_routes(here, paths, interfaces)
+    if why:
+        return why
+    if numbers != held_by_position(solutions):
+        return "routes not by position"
+    if a.combined is None:
+        return None
+    panics = a.combined == "panic"
+    if panics != any(s["verdict"] == "panic" for s in a):
+        return "combine panics, or not"
+    if panics:
+        count["panic"] += 1
+        return None
+    there = classes(a, fingerprint)
+    why = not_routes(there, a.combined, fingerprint)
+    if why:
+        return f"combine: {why}"
+    both = len({(interfaces(s), fingerprint(s)) for s in a if s["verdict"] == "path"})
+    if both == len(here) == len(there):
+        count["alike"] += 1
+        why = not_routes(here, a.combined, interfaces)
+        return why and f"combine and routes: {why}"
+    count["finer"] += both > len(here)
+    count["coarser"] += both > len(there)
+    return None
+
+
 def differs(a, b, count):
     """Why the driver's lines b are not those of the oracle's solutions a; None where they are."""
+    said = b[-1].split()[1:] if b and b[-1].startswith("routes") else None
+    if said is None:
+        return "no routes"
+    b = b[:-1]
     if b and b[0].startswith("refused"):
+        if ["refused", b[0].split()[1]] != said:
+            return "another refusal of routes"
         if not isinstance(a, int):
             return "only the driver refuses"
         count["refused"] += 1
@@ -72,7 +184,7 @@ def differs(a, b, count):
     if full:
         b = b[1:]
         count["full"] += 1
-    if full != (len(a) > layout.MAX_SOLUTIONS):
+    if full != (len(a) > layout.MAX_SOLUTIONS) or full != (said == ["refused", str(layout.FULL)]):
         return "full, or not"
     la, ka, kb = [line(s) for s in a], [tie_key(s["cost"], s["edges"]) for s in a], [driver_key(l) for l in b]
     count["solutions"] += len(la)
@@ -88,7 +200,7 @@ def differs(a, b, count):
             return "ties not by position"
     if [(k, sorted(ls)) for k, ls in runs(la, ka)] != [(k, sorted(ls)) for k, ls in rb]:
         return "another order"
-    return None
+    return None if full else routes_differ(a, b, said, count)
 
 
 def main():
@@ -112,7 +224,7 @@ def main():
                     print("  oracle:", l)
                 for l in (y - x):
                     print("  driver:", l)
-    print(" ".join(f"{k} {count[k]}" for k in ("cases", "solutions", "paths", "refused", "full")),
+    print(" ".join(f"{k} {count[k]}" for k in ("cases", "solutions", "paths", "refused", "full", "routes", "alike", "finer", "coarser", "panic")),
           "differing", sum(wrong.values()), *(f"({k} {v})" for k, v in wrong.items()))
     sys.exit(1 if wrong else 0)
 

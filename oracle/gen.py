@@ -503,6 +503,71 @@ def prof_longest(g):
     return up[-1], down[-1], [seg(core)], [seg(up), seg(down)]
 
 
+def reissue(g, s, others):
+    """A segment as it is issued again: the same ASes and interfaces, another time, id, lives and MACs. Two units are 675 seconds, so that the
+    ends of lives rise, fall and tie. Now and then an ingress is another, which no path shows at a shortcut; or an AS in the middle or an
+    interface is another, which makes another route."""
+    r = g.r
+    s = copied(s)
+    s.timestamp = min(max(0, s.timestamp + r.choice([-675, -337, 0, 0, 0, 337, 338, 675, 1350])), HEAD.of.timestamp.most)
+    s.id = g.sid()
+    for e in s.entries:
+        e.mac = g.mac()
+        for x in [e] + e.peers:
+            x.units = min(max(0, x.units + r.choice([-2, -1, 0, 0, 0, 1, 2])), ENTRY.of.units.most) if g.p(0.6) else x.units
+    e = r.choice(s.entries[1:-1] or s.entries)
+    x = r.random()
+    if x < 0.25:
+        e.ingress = r.randint(0, 4)
+    elif x < 0.35 and len(s.entries) > 2:
+        e.isd_as = r.choice(others)
+    elif x < 0.4:
+        e.egress = r.randint(1, 3)
+    return s
+
+
+def turned(s):
+    """A core segment from its other end: the same links, the other way round."""
+    s = copied(s)
+    s.entries.reverse()
+    for e in s.entries:
+        e.ingress, e.egress = e.egress, e.ingress
+    return s
+
+
+def prof_reissued(g):
+    """Only by --profile: a few segments, each issued several times: copies of a route, which live longer, shorter and as long; beside loops."""
+    r = g.r
+    g.zero = r.choice([0.0, 0.0, 0.0, 0.1])
+    g.ifs = r.choice([1, 2, 2, 4])
+    a, b, x, y, m, n, *others = g.asn(9)
+    late = g.p(0.05)
+    lives = r.choice([[3, 4, 5], [63], [0, 1, 255]])
+    def seg(*path):
+        k = len(path)
+        s = Segment(HEAD.of.timestamp.most - 1200 if late else r.choice([1000000, 1000675]), g.sid(), [
+            g.entry(p, 0 if i == 0 else g.ifid(), 0 if i == k - 1 else g.ifid()) for i, p in enumerate(path)])
+        for e in s.entries:
+            e.units = r.choice(lives)
+        return s
+    cores = [seg(*p) for p in r.choice([[], [(x, y)], [(y, x)], [(x, others[0], y)], [(y, x), (x, y)]])]
+    tops = r.choice([(x, x), (x, y)])
+    ups = [seg(tops[0], m, a)] + [seg(tops[0], *r.choice([(m,), (n,), (), (m, n)]), a) for _ in range(r.randint(0, 1))]
+    downs = [seg(tops[1], r.choice([m, n]), b)] + [seg(tops[1], *r.choice([(m,), (n,), (), (n, m)]), b) for _ in range(r.randint(0, 1))]
+    noncores = ups + downs
+    if g.p(0.3):
+        # A peering link between the two sides.
+        u, d = r.choice(ups).entries[-1], r.choice(downs).entries[-1]
+        u.peers.append(g.peer(d.isd_as, 8, 7))
+        d.peers.append(g.peer(u.isd_as, 7, 8))
+    for l in (cores, noncores):
+        for _ in range(r.randint(0, 8) if l else 0):
+            l.insert(r.randint(0, len(l)), reissue(g, r.choice(l), others))
+    if cores and g.p(0.4):
+        cores.append(turned(r.choice(cores)))
+    return (a, b, cores, noncores) if g.p(0.9) else (b, a, cores, noncores)
+
+
 def prof_bad(g):
     """Mostly books that are refused: damaged, cut, over the limits."""
     r = g.r
@@ -554,7 +619,7 @@ PROFILES = {
     "bare": (prof_bare, 3), "many": (prof_many, 1.5), "crowd": (prof_crowd, 0.5),
     "flood": (prof_flood, 0.08),
     "limits": (prof_limits, 0.7), "full": (prof_full, 0.3), "longest": (prof_longest, 1),
-    "bad": (prof_bad, 2), "worst": (prof_worst, 0),
+    "bad": (prof_bad, 2), "worst": (prof_worst, 0), "reissued": (prof_reissued, 0),
 }
 
 

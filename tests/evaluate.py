@@ -10,7 +10,7 @@ from functools import partial  # noqa: F401 (the functions made use it)
 
 sys.setrecursionlimit(100000)
 TOK = re.compile('\\s+|(?P<str>"(?:[^"\\\\]|\\\\.)*")|(?P<num>0x[0-9a-f_]+|\\d+)(?![\\w·])|(?P<proj>\\.(?:«\\w+»|\\w+))|(?P<op>[(){};,])|(?P<name>[^\\s(){};,"]+)')
-FILES = ['Limits', 'Basics', 'Octets', 'Book', 'Edges', 'Chains', 'Order', 'Assembly', 'Records', 'Router', 'Answers', 'Printed']
+FILES = ['Limits', 'Basics', 'Octets', 'Book', 'Edges', 'Chains', 'Order', 'Assembly', 'Records', 'Router', 'Answers', 'Printed', 'Routes']
 
 
 def toks(t):
@@ -448,8 +448,8 @@ def answer(g, digest, w):
     asn = lambda n: {'0': n}
     if k == 'accept':
         return [g['f_verdictNumber'](g['f_verdict'](t(w[1])))]
-    if k == 'list':
-        l = g['f_listing'](digest, t(w[1]), asn(w[2]), asn(w[3]), w[4])
+    if k in ('list', 'route'):
+        l = g['f_listing' if k == 'list' else 'f_routing'](digest, t(w[1]), asn(w[2]), asn(w[3]), w[4])
         return [g['f_listNumber'](l['0']), *l['1']]
     if k == 'print':
         return list(g['f_printed'](digest, t(w[1])))

@@ -1,5 +1,5 @@
 #!/usr/bin/env python3
-"""A small model of listing, assembly and the printed list, written from docs/SPECIFICATION.md alone.
+"""A small model of listing, assembly, routes and the printed list, written from docs/SPECIFICATION.md alone.
 
 It shares no code with crates/, and with tools/ only the layout of the bytes: tests and examples use it to tell what the others should answer. Run
 as a program it stands in for `list`: source, destination and book on standard input, the printed list on standard output.
@@ -208,6 +208,26 @@ def path(chain):
         return "loop"
     return Path([p[0] for p in parts], [h for p in parts for h in p[1]], interfaces,
                 min([PATH_HEAD.of.mtu.most] + [m for p in parts for m in p[3]]), min(p[4] for p in parts))
+
+
+# ---- routes
+
+def routes(book, source, destination):
+    """The chains that are listed as routes. The first path of a route, that is of a list of interfaces, gives it its place; a later chain is held
+    there only if it lives longer than the one held."""
+    held = {}
+    for chain in solutions(book, source, destination):
+        p = path(chain)
+        if not isinstance(p, Path):
+            continue
+        route = tuple(p.interfaces)
+        if route not in held or p.expiry > held[route][1].expiry:
+            held[route] = chain, p      # a key that is there keeps its place
+    return [chain for chain, _ in held.values()]
+
+
+def record(chain):
+    return layout.solution(cost(chain), *((e.segment.position, e.shortcut, e.peer, CONSTRUCTION if in_construction(e) else 0) for e in chain))
 
 
 # ---- the printed list: docs/SPECIFICATION.md 10

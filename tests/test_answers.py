@@ -370,6 +370,141 @@ class Why(unittest.TestCase):
             self.assertTrue(line.startswith(plain))
 
 
+class Routes(unittest.TestCase):
+    """Routes by the library: cases worked out by hand, and those of the program's list."""
+
+    def told(self, *segments):
+        """The first line, and what is said of each route."""
+        data = layout.write(segments)
+        status, out, said = book("list", "--routes", "--now", 0, "1-1", "1-2", given=data)
+        self.assertEqual((status, said), (0, ""))
+        first, *lines = out.decode().splitlines()
+        found = []
+        for line in lines:
+            if line[0].isdigit():
+                found.append([])
+            elif line.startswith("  "):
+                found[-1].append(line.strip())
+        return first, found
+
+    # By X, and by Y.
+    WHOLE = chain(D, X, S)
+    OTHER = segment(hop(D, 0, 9), hop(Y, 10, 11), hop(S, 12, 0))
+
+    def parts(self, timestamp):
+        """Two segments that together pass the interfaces of WHOLE."""
+        up = segment(hop(X, 0, 3), hop(S, 4, 0), timestamp=timestamp, ident=7)
+        return segment(hop(D, 0, 1), hop(X, 2, 0), timestamp=timestamp, core=True), up
+
+    def test_copies(self):
+        one, two, three = chain(D, S), chain(D, S, timestamp=1022320), chain(D, S, timestamp=1000001)
+        first, (route,) = self.told(one, two, three)
+        self.assertEqual(first, "routes 1 solutions 3 paths 3")
+        self.assertEqual(route[0], "uses segment 1 (non-core, id 0001, issued 1970-01-12T19:58:40Z): entries 1 to 0")
+        self.assertEqual(route[-3:], ["solution 2 of the list, at the place of solution 1, the first of this route",
+                                      "lives 6h 12m longer than solution 1 (segment 0), which is dropped",
+                                      "lives 6h 11m 59s longer than solution 3 (segment 2), which is dropped"])
+        first, (route,) = self.told(one, replace(one, id=2))
+        self.assertEqual(route[-2:], ["solution 1 of the list", "lives as long as solution 2 (segment 1), which is dropped since it stands later"])
+        first, (route,) = self.told(one)
+        self.assertEqual((first, route[-1]), ("routes 1 solutions 1 paths 1", "solution 1 of the list"))
+
+    def test_place(self):
+        """The copy that lives longer stands after another route. By X the fingerprint is b69fedd4..., by Y b92fd159..."""
+        core, up = self.parts(1086400)
+        first, (one, two) = self.told(core, self.WHOLE, self.OTHER, up)
+        self.assertEqual(first, "routes 2 solutions 4 paths 4")
+        self.assertEqual([line.split(" (")[0] for line in one[:2]], ["uses segment 3", "uses segment 0"])
+        self.assertEqual(one[-3:], ["solution 4 of the list, at the place of solution 1, the first of this route",
+                                    "lives 1d longer than solution 1 (segment 1), which is dropped",
+                                    "lives 1d longer than solution 3 (segments 1, 0), which is dropped"])
+        self.assertEqual(two[-2:], ["solution 2 of the list", "stands after 1, as solution 2 after solution 1, by fingerprint of the first segment: "
+                                                              "b92fd159... against b69fedd4... (the lower stands first)"])
+
+    def test_renewed(self):
+        """The example: numbers are those of routes, and those of solutions where it says so."""
+        status, out, said = book("list", "--routes", *EXAMPLES["renewed"], ROOT / "examples" / "renewed.book")
+        self.assertEqual((status, said), (0, ""))
+        lines = [line.strip() for line in out.decode().splitlines()]
+        stand = [line.split(":")[0] for line in lines if line.startswith("stands")]
+        self.assertEqual(stand, ["stands after 1, as solution 3 after solution 1, by cost",
+                                 "stands after 2, as solution 4 after solution 3, by fingerprint of the first segment",
+                                 "stands after 3, as solution 8 after solution 4, by cost",
+                                 "stands after 4, as solution 10 after solution 8, by fingerprint of the first segment"])
+        told = "lives 1h 55m longer than solution 6 (segments 5, 3), which is dropped"
+        self.assertIn(told, lines)
+        self.assertIn(told, (ROOT / "README.md").read_text())
+
+    def test_generated(self):
+        """The library's routes are those worked out of the list, and the program's."""
+        seen = set()
+        for case in [*generate.cases("routes", 200), *stored(form.answers())]:
+            listing = answers.by_library(*case)
+            found, errors = answers.routes_of(listing, case[2])
+            self.assertEqual(errors, [])
+            self.assertEqual([r.held.record for r in found], list(combinator.routes(*case)))
+            for r in found:
+                seen |= {(r.held is r.first, r.longer(s) > 0) for s in r.dropped}
+            theirs, _ = answers.routes_of(answers.Listing(*case[:2], "", None, printed.parse(listing.text), "the program was asked"), case[2])
+            self.assertEqual([(r.held.number, [s.number for s in r.dropped]) for r in theirs], [(r.held.number, [s.number for s in r.dropped]) for r in found])
+        # The first stays since it lives longer, or as long; a later one takes its place, and there is another that lives as long as that.
+        self.assertEqual(seen, {(True, True), (True, False), (False, True), (False, False)})
+
+    def test_full(self):
+        """More solutions than can be listed, be the routes as few as they may."""
+        source, destination, data = next(case for case in stored(form.refusals()) if answers.by_library(*case).refused == layout.FULL)
+        ends = isd_as.written(source), isd_as.written(destination)
+        self.assertEqual(book("list", "--routes", "--plain", *ends, given=data), (1, b"refused 8\n", ""))
+        self.assertEqual(book("list", "--routes", *ends, given=data), (1, b"refused 8 (Full): more than 4096 solutions\n", ""))
+
+    def test_program(self):
+        """The same list of routes by both."""
+        core, up = self.parts(1086400)
+        data = layout.write([core, self.WHOLE, self.OTHER, up])
+        ours, theirs = (book("list", "--routes", "--plain", *by, "1-1", "1-2", given=data) for by in (("--library", LIBRARY), ("--program", MODEL)))
+        self.assertEqual(ours, theirs)
+        self.assertEqual(ours[1].splitlines()[0], b"routes 2 solutions 4 paths 4")
+
+    def test_errors(self):
+        one, two = chain(D, S), chain(D, S, timestamp=1022320)
+        data = layout.write([one, two])
+        real = combinator.routes
+        stranger = combinator.Solutions(layout.solution(1, (9, 0, None, 0)))
+        for answered, theirs in ((lambda *given: combinator.list(*given)[:1], "1"), (combinator.list, "1, 2"),
+                                 (lambda *given: stranger, "one that is not in the list"), (lambda *given: real(*given)[:0], "none")):
+            with mock.patch.object(combinator, "routes", answered):
+                status, out, said = book("list", "--routes", "1-1", "1-2", given=data)
+                self.assertEqual((status, said), (1, "book: the library's routes differ from what is worked out of its list\n"))
+                words = f"the routes are those of solutions {theirs}, worked out here they are those of 2"
+                self.assertEqual([line for line in out.decode().splitlines() if "error" in line], [f"error: {words}"])
+                _, out, _ = book("list", "--routes", "--json", "1-1", "1-2", given=data)
+                self.assertEqual(json.loads(out)["errors"], [words])
+                with tempfile.TemporaryDirectory() as folder:
+                    for command in (("list", "--plain"), ("draw", "-o", Path(folder, "x.dot"))):
+                        self.assertEqual(book(*command, "--routes", "1-1", "1-2", given=data)[0::2], (status, said))
+
+        def full(*given):
+            raise combinator.Refusal(layout.FULL)
+        with mock.patch.object(combinator, "routes", full):
+            status, out, _ = book("list", "--routes", "1-1", "1-2", given=data)
+        self.assertEqual((status, out.decode().splitlines()[-1]),
+                         (1, "error: routes are refused 8 Full: there are more solutions than slots, and the list is not"))
+
+    def test_json(self):
+        core, up = self.parts(1086400)
+        status, out, said = book("list", "--routes", "--json", "--now", 0, "1-1", "1-2", given=layout.write([core, self.WHOLE, self.OTHER, up]))
+        self.assertEqual((status, said), (0, ""))
+        made = json.loads(out)
+        self.assertEqual((made["solution_count"], made["path_count"], made["errors"]), (4, 4, []))
+        one, two = made["routes"]
+        self.assertEqual([(r["number"], r["solution"], r["first"], [e["position"] for e in r["edges"]]) for r in (one, two)],
+                         [(1, 4, 1, [3, 0]), (2, 2, 2, [2])])
+        self.assertEqual([(d["solution"], [e["position"] for e in d["edges"]], d["expiry"], d["longer"]) for d in one["dropped"]],
+                         [(1, [1], 1021600, 86400), (3, [1, 0], 1021600, 86400)])
+        self.assertEqual((two["dropped"], one["why"]["after"], two["why"]["after"]["number"], two["why"]["after"]["key"]), ([], None, 1, "fingerprint"))
+        self.assertEqual(one["why"]["expiry"]["units"], 63)
+
+
 class Errors(unittest.TestCase):
     """An answer that is not what is worked out of the book is said, and the exit status is 1."""
 
@@ -565,11 +700,12 @@ class Json(unittest.TestCase):
                 walk(part)
             names.update(made if isinstance(made, dict) else ())
         walk(self.read(*example("house")))
+        walk(self.read(S, D, layout.write([chain(D, S), chain(D, S, ident=2)]), "--routes"))
         walk(self.read(S, D, bytes(7), status=1))
         self.assertGreater(len(names), 40)
         section = page.split(".SH THE LIST AS JSON")[1].split("\n.SH ")[0]
         self.assertEqual(names - set(re.findall(r"\w+", section)), set())
-        for option in ("library", "program", "now", "plain", "json"):
+        for option in ("library", "program", "now", "plain", "json", "routes"):
             self.assertIn(f"\\-\\-{option}", page)
 
     def test_plain(self):

@@ -28,7 +28,7 @@ sys.path[:0] = [str(ROOT / "tools"), str(HERE)]
 
 import generate
 import model
-from booktext import BookError, Trouble, as_json, dot, draw, forms, isd_as, layout, names, notes, printed, refusal, text, times
+from booktext import BookError, Trouble, as_json, dot, draw, forms, isd_as, layout, names, notes, printed, refusal, routes, text, times
 from booktext.layout import COUNTS, ENDS, ENTRY, HEAD, PEER, Entry, Peer, Segment
 from booktext.picture import COLOURS, MOST, PAGE, Picture
 
@@ -54,7 +54,8 @@ if 0001ff0000000111 7
 if 0001ff0000000110 5
 """
 
-EXAMPLES = {"worked": ("1-ff00:0:111", "1-ff00:0:110"), "house": ("1-ff00:0:131", "1-ff00:0:141"), "core": ("1-ff00:0:111", "2-64498")}
+EXAMPLES = {"worked": ("1-ff00:0:111", "1-ff00:0:110"), "house": ("1-ff00:0:131", "1-ff00:0:141"), "renewed": ("1-ff00:0:131", "1-ff00:0:141"),
+            "core": ("1-ff00:0:111", "2-64498")}
 
 # On standard error, where the program is asked.
 NO_REASONS = "book: the program gives no reasons, the library does: build it with make lib, or name it with --library\n"
@@ -134,6 +135,11 @@ class Names(unittest.TestCase):
                      "0x01ff0000000110", "1-ff00:0:110#5", "1_ff00:0:110", "１-110"):
             with self.subTest(word=word), self.assertRaises(ValueError):
                 isd_as.parse(word)
+
+    def test_durations(self):
+        for seconds, words in ((0, "0s"), (1, "1s"), (59, "59s"), (60, "1m"), (3599, "59m 59s"), (3600, "1h"), (22320, "6h 12m"), (86399, "23h 59m 59s"),
+                               (86400, "1d"), (86405, "1d 5s"), (2**32 - 1, "49710d 6h 28m 15s")):
+            self.assertEqual(times.duration(seconds), words)
 
     def test_times(self):
         self.assertEqual(times.written(0), "1970-01-01T00:00:00Z")
@@ -703,6 +709,143 @@ if 0001ff0000000110 5      1-ff00:0:110#5
                 status, out, said = book(*args)
                 self.assertEqual((status, out), (2, b""))
                 self.assertIn("usage: book", said)
+
+
+class Routes(unittest.TestCase):
+    """Routes of the program's list, worked out by hand. Those of the library: test_answers.py."""
+
+    def direct(self, timestamp, ident, units=63):
+        return f"non-core timestamp {timestamp} id {ident}\n{entry_line('1-2', 0, 5, units)}{entry_line('1-1', 7, 0, units)}"
+
+    def book(self):
+        """A segment, a reissue that lives 22,320 seconds longer, another that lives as long as that, and a longer way.
+
+        63 units live 21,600 seconds, 61 units 20,925."""
+        around = f"non-core timestamp 1000000 id 0004\n{entry_line('1-2', 0, 5)}{entry_line('1-3', 6, 8)}{entry_line('1-1', 7, 0)}"
+        return (self.direct(1000000, "0001") + self.direct(1022320, "0002") + self.direct(1022995, "0003", 61) + around).encode()
+
+    def listed(self, *options, given=None):
+        return book("list", "--program", MODEL, *options, "1-1", "1-2", given=given or self.book())
+
+    def test_listed(self):
+        with tempfile.TemporaryDirectory() as folder:
+            names = Path(folder, "names")
+            names.write_text("1-1 the kiln\n")
+            status, out, said = self.listed("--routes", "--names", names)
+        self.assertEqual((status, out.decode(), said), (0, """\
+routes 2 solutions 4 paths 4
+1 cost 1 segments 1 mtu 1500 expiry 1043920 hops 2  expires 1970-01-13T01:58:40Z
+info 0 0100 1022320        against construction, issued 1970-01-12T19:58:40Z
+if 0001000000000001 7      1-1#7  the kiln
+if 0001000000000002 5      1-2#5
+  solution 2 of the list, at the place of solution 1, the first of this route
+  lives 6h 12m longer than solution 1, which is dropped
+  lives as long as solution 3, which is dropped since it stands later
+2 cost 2 segments 1 mtu 1500 expiry 1021600 hops 3  expires 1970-01-12T19:46:40Z
+info 0 0004 1000000        against construction, issued 1970-01-12T13:46:40Z
+if 0001000000000001 7      1-1#7  the kiln
+if 0001000000000003 8      1-3#8
+if 0001000000000003 6      1-3#6
+if 0001000000000002 5      1-2#5
+  solution 4 of the list
+""", NO_REASONS))
+
+    def test_plain(self):
+        self.assertEqual(self.listed("--routes", "--plain"), (0, b"""\
+routes 2 solutions 4 paths 4
+1 cost 1 segments 1 mtu 1500 expiry 1043920 hops 2
+info 0 0100 1022320
+if 0001000000000001 7
+if 0001000000000002 5
+2 cost 2 segments 1 mtu 1500 expiry 1021600 hops 3
+info 0 0004 1000000
+if 0001000000000001 7
+if 0001000000000003 8
+if 0001000000000003 6
+if 0001000000000002 5
+""", ""))
+
+    def test_json(self):
+        status, out, said = self.listed("--routes", "--json", "--now", "1021601")
+        made = json.loads(out)
+        self.assertEqual((status, said), (0, NO_REASONS))
+        self.assertEqual({name: made[name] for name in made if name != "routes"}, {
+            "source": "1-1", "destination": "1-2", "now": 1021601, "refusal": None, "solution_count": 4, "path_count": 4, "errors": []})
+        self.assertEqual([[r[name] for name in ("number", "solution", "first", "expiry", "run_out", "why")] for r in made["routes"]],
+                         [[1, 2, 1, 1043920, False, None], [2, 4, 4, 1021600, True, None]])
+        self.assertEqual([r["dropped"] for r in made["routes"]], [[{"solution": 1, "edges": None, "expiry": 1021600, "longer": 22320},
+                                                                  {"solution": 3, "edges": None, "expiry": 1043920, "longer": 0}], []])
+
+    def test_note(self):
+        """The whole list says that there are fewer routes."""
+        lines = self.listed()[1].decode().splitlines()
+        self.assertEqual((lines[0], lines[-1]), ("solutions 4 paths 4", "note: 4 paths are 2 routes: --routes lists each route once, "
+                                                                        "by the path that lives longest"))
+        self.assertNotIn(b"note", self.listed(given=self.direct(1, "0001").encode())[1])
+        self.assertNotIn(b"note", self.listed("--plain")[1])
+        self.assertTrue(self.listed(given=(self.direct(1, "0001") + self.direct(2, "0001")).encode())[1].decode().endswith(
+            "note: 2 paths are 1 route: --routes lists each route once, by the path that lives longest\n"))
+
+    def test_renewed(self):
+        """The routes of the house, some renewed. By examples/renewed.txt, the segments run out after 1767247200, seconds that are added here:
+        0: 21600; 1: 21900; 2: 22500, its peer 17100; 3: 22200, its peer 16800; 4: 10920; 5 and 6: 29100, the peer of 6 23700."""
+        renewed, house = ((ROOT / "examples" / f"{name}.{kind}") for name, kind in (("renewed", "book"), ("house", "list")))
+        status, out, _ = book("list", "--routes", "--program", MODEL, *EXAMPLES["renewed"], renewed)
+        lines = out.decode().splitlines()
+        self.assertEqual((status, lines[0]), (0, "routes 5 solutions 11 paths 11"))
+        self.assertEqual([line.strip() for line in lines if line.startswith("  ")], [
+            "solution 2 of the list, at the place of solution 1, the first of this route", "lives 5m longer than solution 1, which is dropped",
+            "solution 3 of the list",
+            "solution 7 of the list, at the place of solution 4, the first of this route", "lives 2h longer than solution 4, which is dropped",
+            "lives 2h longer than solution 5, which is dropped", "lives 1h 55m longer than solution 6, which is dropped",
+            "solution 8 of the list", "lives as long as solution 9, which is dropped since it stands later",
+            "solution 10 of the list", "lives as long as solution 11, which is dropped since it stands later"])
+        found = [int(number) - 1767247200 for number in re.findall(r" expiry ([0-9]+) ", out.decode())]
+        self.assertEqual(found, [17100, 10920, 29100, 21600, 10920])
+        # They are the routes of the house, in its order.
+        interfaces = [line[:25].rstrip() for line in lines if line.startswith("if ")]
+        self.assertEqual(interfaces, [line for line in house.read_text().splitlines() if line.startswith("if ")])
+
+    def test_told_apart(self):
+        """By ASes and ids together, and in their order."""
+        def path(number, *interfaces):
+            return printed.Solution(number, 1, 1, "path", 1500, 10 + number, 2, [], list(interfaces))
+        found = [path(1, (1, 5), (2, 7)), path(2, (1, 5), (3, 7)), path(3, (1, 5), (2, 8)), path(4, (2, 7), (1, 5)), path(5, (1, 5), (2, 7), (2, 7)),
+                 path(6, (1, 5), (2, 7))]
+        self.assertEqual([(r.number, r.held.number, [s.number for s in r.dropped]) for r in routes.routes(found)],
+                         [(1, 6, [1]), (2, 2, []), (3, 3, []), (4, 4, []), (5, 5, [])])
+
+    def test_nothing(self):
+        # 1-3 is shown at 2, 4 and 3.
+        loop = (f"non-core timestamp 1 id 0001\n{entry_line('1-3', 0, 2)}{entry_line('1-1', 1, 0)}"
+                f"non-core timestamp 1 id 0002\n{entry_line('1-3', 4, 3)}{entry_line('1-2', 1, 0)}").encode()
+        self.assertEqual(self.listed("--routes", given=loop), (0, b"routes 0 solutions 1 paths 0\nnothing found: no solution has a path, "
+                                                                  b"and without --routes the list says why\n", NO_REASONS))
+        self.assertEqual(book("list", "--routes", "--program", MODEL, "1-1", "1-9", given=loop),
+                         (0, b"routes 0 solutions 0 paths 0\nnothing found: destination 1-9 is in no segment\n", ""))
+
+    def test_refused(self):
+        for options, words in (((), "refused 1 (Cut), at byte 7: the book has 7 bytes, its sizes alone take 8\n"), (("--plain",), "refused 1\n")):
+            self.assertEqual(self.listed("--routes", *options, given=bytes(7)), (1, words.encode(), ""))
+        status, out, _ = self.listed("--routes", "--json", given=bytes(7))
+        made = json.loads(out)
+        self.assertEqual((status, made["refusal"], made["routes"], made["solution_count"]), (1, {"number": 1, "word": "Cut"}, None, None))
+
+    def test_drawn(self):
+        with tempfile.TemporaryDirectory() as folder:
+            made = Path(folder, "x.dot")
+            draw_ = ("draw", "--program", MODEL, "-o", made, "1-1", "1-2")
+            self.assertEqual(book(*draw_, given=self.book()), (0, b"", "book: 4 paths are 2 routes: --routes draws each route once, "
+                                                                       "by the path that lives longest\n"))
+            self.assertIn("4 solutions, 4 paths", made.read_text())
+            self.assertEqual(book(*draw_, "--paths", "2,4", given=self.book()), (0, b"", ""))
+            self.assertEqual(book(*draw_, "--routes", given=self.book()), (0, b"", ""))
+            words = made.read_text()
+            self.assertIn("2 routes", words)
+            self.assertIn("1970-01-13T01:58:40Z", words)
+            self.assertNotIn(COLOURS[2], words)
+            status, _, said = book(*draw_, "--routes", "--paths", "3", given=self.book())
+            self.assertEqual((status, said), (2, "book: there is no route 3: the list has 2\n"))
 
 
 @contextlib.contextmanager

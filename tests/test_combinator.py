@@ -107,23 +107,46 @@ class Stored(unittest.TestCase):
                 self.assertTrue(all(len(s.hops) == s.info.hops for s in found.segments))
         self.assertEqual(seen, {layout.PATH, layout.LOOP, layout.BARE})
 
+    def test_routes(self):
+        """The first of a route keeps its place, and a later one takes it over that lives longer."""
+        r, seen = form.Reader("answers.bin"), set()
+        while r.at < len(r.data):
+            source, destination, book = self.given(r)
+            count = r.next(form.COUNT).solutions
+            records = r.take(Solution.SIZE * count)
+            routes, held = [], {}
+            for k in range(count):
+                answer, length = r.next(form.OUTCOME)
+                path = r.take(length)
+                if answer != layout.PATH:
+                    continue
+                path, solution = Path(path), records[Solution.SIZE * k:Solution.SIZE * (k + 1)]
+                if path.interfaces not in routes:
+                    routes.append(path.interfaces)
+                    held[path.interfaces] = path.expiry, solution
+                else:
+                    longer = path.expiry > held[path.interfaces][0]
+                    held[path.interfaces] = (path.expiry, solution) if longer else held[path.interfaces]
+                    seen.add(longer)
+            self.assertEqual(combinator.routes(source, destination, book).as_bytes(), b"".join(held[route][1] for route in routes))
+        self.assertEqual(seen, {False, True})
+
     def test_refusals(self):
         r, seen = form.Reader("refusals.bin"), set()
         while r.at < len(r.data):
             source, destination, book = self.given(r)
             call, room, length = r.next(form.CALL)
             given, number = r.take(length), r.next(form.REFUSAL).number
-            found = 0
-            try:
-                if call == form.LISTING:
-                    combinator.list(source, destination, book, room)
-                else:
-                    combinator.assemble(source, destination, book, given, room)
-            except Refusal as refused:
-                found = refused.number
-                self.assertTrue(str(refused).startswith(f"refused {number} {layout.WORDS[number]}: "), str(refused))
-                self.assertEqual(refused.word, layout.WORDS[number])
-            self.assertEqual(found, number)
+            # Routes are refused as solutions are.
+            for work in (combinator.list, combinator.routes) if call == form.LISTING else (combinator.assemble,):
+                found = 0
+                try:
+                    work(source, destination, book, *(() if call == form.LISTING else (given,)), room)
+                except Refusal as refused:
+                    found = refused.number
+                    self.assertTrue(str(refused).startswith(f"refused {number} {layout.WORDS[number]}: "), str(refused))
+                    self.assertEqual(refused.word, layout.WORDS[number])
+                self.assertEqual(found, number)
             seen.add(number)
         self.assertEqual(seen, {0, *range(layout.CUT, layout.STRANGER + 1)})
 
@@ -132,6 +155,63 @@ class Stored(unittest.TestCase):
         self.assertEqual(str(Refusal(layout.FULL)), "refused 8 Full: there are more solutions than slots")
         self.assertEqual((Refusal(99).word, str(Refusal(99))), ("unknown", "refused 99 unknown"))
         self.assertEqual(pickle.loads(pickle.dumps(Refusal(layout.FULL))).number, layout.FULL)
+
+
+class Routes(unittest.TestCase):
+    """Cases worked out by hand. Every hop lives 337 seconds."""
+    X, Y = IsdAsn(1), IsdAsn(2)
+
+    def book(self, *segments):
+        """Each is its kind, its timestamp, which is its id too, and AS, ingress and egress of its entries."""
+        writer = BookWriter()
+        for kind, timestamp, *entries in segments:
+            getattr(writer, kind)(timestamp, timestamp, [(AsEntry(a, 1500, 0, HopField(0, ingress, egress, bytes(layout.MAC_SIZE))), ())
+                                                         for a, ingress, egress in entries])
+        return writer.finish()
+
+    def check(self, book, listed, kept):
+        """The positions that the solutions and the routes use."""
+        for work, want in ((combinator.list, listed), (combinator.routes, kept)):
+            self.assertEqual([tuple(e.position for e in s.edges) for s in work(SRC, DST, book)], want)
+
+    def test_copies(self):
+        direct = (DST, 0, 5), (SRC, 7, 0)
+        around = (DST, 0, 5), (self.X, 6, 8), (SRC, 7, 0)
+        book = self.book(("non_core", 1000, *direct), ("non_core", 3000, *direct), ("non_core", 2000, *direct), ("non_core", 500, *around))
+        self.check(book, [(0,), (1,), (2,), (3,)], [(1,), (3,)])
+        self.assertEqual([combinator.assemble(SRC, DST, book, s).expiry for s in combinator.routes(SRC, DST, book)], [3337, 837])
+        # There must be a slot for every solution.
+        self.assertEqual(len(combinator.routes(SRC, DST, book, 4 * Solution.SIZE)), 2)
+        with self.assertRaises(Refusal) as found:
+            combinator.routes(SRC, DST, book, 4 * Solution.SIZE - 1)
+        self.assertEqual(found.exception.number, layout.FULL)
+
+    def test_as_long(self):
+        # From 2106-02-07T06:28:15Z on every expiry is that: the copies live as long, and the first stays.
+        direct = (DST, 0, 5), (SRC, 7, 0)
+        writer = BookWriter()
+        for ident in (1, 2):
+            writer.non_core(2**32 - ident, ident, [(AsEntry(a, 1500, 0, HopField(0, i, e, bytes(layout.MAC_SIZE))), ()) for a, i, e in direct])
+        self.check(writer.finish(), [(0,), (1,)], [(0,)])
+
+    def test_places(self):
+        """A longer-lived copy that stands after another route takes the place of the first. Fingerprints 59cd5dc7... and ce7e27ca..."""
+        book = self.book(("core", 2000, (DST, 0, 1), (self.X, 2, 0)), ("non_core", 1000, (DST, 0, 1), (self.X, 2, 3), (SRC, 4, 0)),
+                         ("non_core", 9000, (DST, 0, 5), (self.Y, 6, 7), (SRC, 8, 0)), ("non_core", 2000, (self.X, 0, 3), (SRC, 4, 0)))
+        self.check(book, [(1,), (2,), (1, 0), (3, 0)], [(3, 0), (2,)])
+
+    def test_told_apart(self):
+        """Neither the ASes alone nor the ids alone make a route."""
+        for one, other in (((DST, 0, 5), (DST, 0, 6)), ((DST, 0, 5), (DST, 0, 5))):
+            for between in (self.X, self.Y):
+                book = self.book(("non_core", 1, one, (self.X, 6, 8), (SRC, 7, 0)), ("non_core", 2, other, (between, 6, 8), (SRC, 7, 0)))
+                self.assertEqual(len(combinator.list(SRC, DST, book)), 2)
+                self.assertEqual(len(combinator.routes(SRC, DST, book)), 1 if (one, between) == (other, self.X) else 2)
+
+    def test_no_path(self):
+        self.check(self.book(("non_core", 1, (self.X, 0, 2), (SRC, 1, 0)), ("non_core", 2, (self.X, 4, 3), (DST, 1, 0))), [(0, 1)], [])
+        self.check(self.book(("non_core", 1, (DST, 0, 0), (SRC, 0, 0))), [(0,)], [])
+        self.assertEqual(len(combinator.routes(SRC, SRC, WORKED, 0)), 0)
 
 
 class Text(unittest.TestCase):
@@ -176,7 +256,7 @@ class Books(unittest.TestCase):
     PEER = PeerEntry(2, 3, 1400, HopField(63, 4, 5, bytes(layout.MAC_SIZE)))
 
     def test_come_back(self):
-        for name in ("worked", "house", "core"):
+        for name in ("worked", "house", "core", "renewed"):
             book = (ROOT / "examples" / f"{name}.book").read_bytes()
             self.assertEqual(rewritten(book), book, name)
         for case in form.answers():
@@ -240,8 +320,9 @@ class Arguments(unittest.TestCase):
     def test_numbers(self):
         for number in (-1, 1 << 64, 1 << 80):
             for ends in ((number, DST), (SRC, number)):
-                with self.subTest(ends=ends), self.assertRaises(ValueError):
-                    combinator.list(*ends, WORKED)
+                for work in (combinator.list, combinator.routes):
+                    with self.subTest(ends=ends), self.assertRaises(ValueError):
+                        work(*ends, WORKED)
                 with self.subTest(ends=ends), self.assertRaises(ValueError):
                     combinator.assemble(*ends, WORKED, bytes(Solution.SIZE))
             with self.assertRaises(ValueError):

@@ -1,8 +1,8 @@
 """SCION path combination: the proved C library of include/combinator.h, from Python. Standard library only, Python 3.8 or later.
 
-`list` lists every way to join the segments of a book into a path from a source to a destination, the best first. `assemble` makes the path of
-one of them. Names are those of the Rust crate; README.md says what differs. Nothing is kept between calls but the library itself, which the first
-call loads. Calls may run at the same time in any threads.
+`list` lists every way to join the segments of a book into a path from a source to a destination, the best first. `routes` lists each route once,
+by the solution that lives longest. `assemble` makes the path of one of them. Names are those of the Rust crate; README.md says what differs. Nothing
+is kept between calls but the library itself, which the first call loads. Calls may run at the same time in any threads.
 """
 import ctypes
 import ctypes.util
@@ -27,7 +27,7 @@ from booktext.layout import (LIST_SIZE, MAX_BOOK, MAX_EDGES, MAX_ENTRIES, MAX_HO
 
 __all__ = ["AsEntry", "Assembled", "Bare", "BookWriter", "HopField", "InfoField", "IsdAsn", "LIST_SIZE", "LibraryNotFound", "Loop", "MAX_BOOK",
            "MAX_EDGES", "MAX_ENTRIES", "MAX_HOPS", "MAX_INTERFACES", "MAX_PEERS", "MAX_SEGMENTS", "MAX_SOLUTIONS", "NoPath", "ParseError", "Path",
-           "PathInterface", "PeerEntry", "Refusal", "Segment", "Solution", "SolutionEdge", "Solutions", "assemble", "list", "load"]
+           "PathInterface", "PeerEntry", "Refusal", "Segment", "Solution", "SolutionEdge", "Solutions", "assemble", "list", "load", "routes"]
 
 Buffer = Union[bytes, bytearray, memoryview]
 
@@ -133,6 +133,7 @@ OUT = Kind((ctypes.c_void_p, ctypes.c_size_t), lambda room: (room, len(room)))
 # Every function of the header, by its parameters. Each answers a number of 32 bits.
 FUNCTIONS: Dict[str, Tuple[Kind, ...]] = {
     "combinator_list": (AS, AS, BYTES, OUT),
+    "combinator_routes": (AS, AS, BYTES, OUT),
     "combinator_assemble": (AS, AS, BYTES, BYTES, OUT),
 }
 
@@ -258,7 +259,7 @@ class Solution(Record):
 
 
 class Solutions(Record, Sequence[Solution]):
-    """The solutions that `list` found, the best first."""
+    """The solutions that `list` found, the best first, or one for each route, as `routes` did."""
     __slots__ = ()
 
     def __len__(self) -> int:
@@ -406,8 +407,21 @@ def list(src: int, dst: int, book: Buffer, room: int = LIST_SIZE) -> Solutions:
     `room` is the bytes of the output. There is a slot for each Solution.SIZE of them; more solutions than slots are refused (Full). The default
     suffices for every book that can be listed at all. Where `src` equals `dst` the list is empty.
     """
+    return _listed("combinator_list", src, dst, book, room)
+
+
+def routes(src: int, dst: int, book: Buffer, room: int = LIST_SIZE) -> Solutions:
+    """The routes from `src` to `dst` of a book, each once: of the solutions whose paths pass the same interfaces, the first of those that live longest.
+
+    Solutions without a path are left out. A route stands at the place of the first of its solutions, so that those answered need not be in the order
+    of `list`. It refuses as `list` does: `room` is for a slot to each solution, and not to each route.
+    """
+    return _listed("combinator_routes", src, dst, book, room)
+
+
+def _listed(name: str, src: int, dst: int, book: Buffer, room: int) -> Solutions:
     out = _room(room)
-    count = _call("combinator_list", src, dst, book, out)
+    count = _call(name, src, dst, book, out)
     return Solutions(out.raw[:Solution.SIZE * count])
 
 

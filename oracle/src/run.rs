@@ -14,7 +14,10 @@ use crate::{
     identifier::isd_asn::IsdAsn,
     path::{
         ScionPath,
-        combinator::graph::{InputSegment, MultiGraph, PathSolution, Vertex, number_of_hops},
+        combinator::{
+            combine,
+            graph::{InputSegment, MultiGraph, PathSolution, Vertex, number_of_hops},
+        },
         fingerprint::{control_plane::PathFingerprint, data_plane::DpPathFingerprint},
     },
     reveal::reveal,
@@ -45,6 +48,12 @@ pub fn path_of<E: Entry>(s: &PathSolution<'_, E>) -> Came {
     }
 }
 
+/// `combine` whole; nothing where it panics, as it does where a solution has no interfaces.
+fn combined(source: IsdAsn, destination: IsdAsn, book: &Book<false>) -> Option<Vec<ScionPath>> {
+    let (cores, non_cores) = book.segments.split_at(book.cores);
+    catch_unwind(AssertUnwindSafe(|| combine(source, destination, cores.iter(), non_cores.iter()))).ok()
+}
+
 fn inputs<const T: bool>(book: &Book<T>) -> Vec<InputSegment<'_, Own<T>>> {
     book.segments
         .iter()
@@ -59,17 +68,24 @@ fn inputs<const T: bool>(book: &Book<T>) -> Vec<InputSegment<'_, Own<T>>> {
         .collect()
 }
 
-fn print_path(out: &mut String, path: &ScionPath) -> Vec<u8> {
+fn print_path(out: &mut String, path: &ScionPath, flags: Flags) -> Vec<u8> {
     let meta = path.metadata().expect("path() gives metadata");
     let ScionDpPathView::Standard(view) = path.dp_path() else {
         panic!("path() gives a standard path")
     };
     assert!(path.expiration() == Some(meta.expiration as u32));
-    writeln!(out, "path mtu {} expiry {}", meta.mtu, meta.expiration).unwrap();
-    let mut flags = Vec::new();
+    write!(out, "path mtu {} expiry {}", meta.mtu, meta.expiration).unwrap();
+    if flags.combine {
+        out.push_str(" key ");
+        for b in &path.fingerprint().as_ref()[..8] {
+            write!(out, "{b:02x}").unwrap();
+        }
+    }
+    out.push('\n');
+    let mut directions = Vec::new();
     let mut hops = 0;
     for (info, h) in view.segments() {
-        flags.push(info.flags().bits());
+        directions.push(info.flags().bits());
         hops += h.len();
         writeln!(
             out,
@@ -81,7 +97,7 @@ fn print_path(out: &mut String, path: &ScionPath) -> Vec<u8> {
         )
         .unwrap();
     }
-    assert!(hops == view.hop_fields().len() && flags.len() == view.info_fields().len());
+    assert!(hops == view.hop_fields().len() && directions.len() == view.info_fields().len());
     for h in view.hop_fields() {
         write!(out, "hop {} {} {} ", h.exp_time(), h.cons_ingress(), h.cons_egress()).unwrap();
         for b in h.mac().0 {
@@ -96,7 +112,21 @@ fn print_path(out: &mut String, path: &ScionPath) -> Vec<u8> {
     }
     assert!(path.src_ia() == interfaces[0].interface.isd_asn);
     assert!(path.dst_ia() == interfaces[interfaces.len() - 1].interface.isd_asn);
-    flags
+    directions
+}
+
+/// What `combine` answers, after the solutions.
+fn print_combined(out: &mut String, source: IsdAsn, destination: IsdAsn, bytes: &[u8], flags: Flags) {
+    let book = book::decode::<false>(bytes, false).unwrap_or_else(|_| panic!("it was decoded before"));
+    match combined(source, destination, &book) {
+        None => out.push_str("combined panic\n"),
+        Some(paths) => {
+            writeln!(out, "combined {}", paths.len()).unwrap();
+            for path in &paths {
+                print_path(out, path, flags);
+            }
+        }
+    }
 }
 
 #[derive(Clone, Copy)]
@@ -105,6 +135,8 @@ struct Flags {
     no_wrapper: bool,
     /// Print a refusal's number (of the specification's table; the Rust has none).
     numbers: bool,
+    /// Print what `combine` answers too, and of each path the fingerprint by which it tells duplicates.
+    combine: bool,
 }
 
 /// The canonical text of one case: source, destination, book.
@@ -112,10 +144,10 @@ fn block(out: &mut String, case: &[u8], flags: Flags) {
     let decoded = match split(case) {
         None => Err(book::CUT),
         Some((source, destination, bytes)) => {
-            book::decode::<true>(bytes, true).map(|book| (source, destination, book))
+            book::decode::<true>(bytes, true).map(|book| (source, destination, bytes, book))
         }
     };
-    let (source, destination, book) = match decoded {
+    let (source, destination, bytes, book) = match decoded {
         Ok(d) => d,
         Err(number) => {
             out.push_str("undecodable");
@@ -129,6 +161,9 @@ fn block(out: &mut String, case: &[u8], flags: Flags) {
     if source == destination && !flags.no_wrapper {
         // As in `combine`.
         out.push_str("solutions 0\n");
+        if flags.combine {
+            print_combined(out, source, destination, bytes, flags);
+        }
         return;
     }
     let inputs = inputs(&book);
@@ -158,12 +193,15 @@ fn block(out: &mut String, case: &[u8], flags: Flags) {
             out.push('\n');
         }
         match path_of(s) {
-            Came::Path(p) => assert!(print_path(out, &p) == directions),
+            Came::Path(p) => assert!(print_path(out, &p, flags) == directions),
             Came::Loop => out.push_str("loop\n"),
             Came::Refused => out.push_str("encode-refused\n"),
             Came::Panic(m) if m == BARE => out.push_str("panic\n"),
             Came::Panic(m) => writeln!(out, "other-panic {m}").unwrap(),
         }
+    }
+    if flags.combine {
+        print_combined(out, source, destination, bytes, flags);
     }
 }
 
@@ -195,6 +233,7 @@ struct Times {
     search: u128,
     paths: u128,
     fingerprints: u128,
+    combine: u128,
     solutions: u64,
     with_path: u64,
 }
@@ -237,19 +276,28 @@ fn bench_one(case: &[u8], t: &mut Times) {
     }
     std::hint::black_box(sum);
     t.fingerprints += t3.elapsed().as_nanos();
+    // `combine` whole, from segments that nothing is known of yet.
+    let Ok(book) = book::decode::<false>(bytes, false) else {
+        return;
+    };
+    let t4 = Instant::now();
+    let routes = combined(source, destination, &book);
+    t.combine += t4.elapsed().as_nanos();
+    std::hint::black_box(routes);
     t.solutions += solutions.len() as u64;
     t.with_path += paths.iter().filter(|p| matches!(p, Came::Path(_))).count() as u64;
 }
 
 fn show(label: &str, t: &Times) {
     println!(
-        "{label} solutions {} paths {} decode_ns {} a_ns {} b_ns {} fingerprints_ns {}",
+        "{label} solutions {} paths {} decode_ns {} a_ns {} b_ns {} fingerprints_ns {} combine_ns {}",
         t.solutions,
         t.with_path,
         t.decode,
         t.search,
         t.search + t.paths,
-        t.fingerprints
+        t.fingerprints,
+        t.combine
     );
 }
 
@@ -269,6 +317,7 @@ fn bench(file: &str, n: u64, each: bool) {
         all.search += t.search;
         all.paths += t.paths;
         all.fingerprints += t.fingerprints;
+        all.combine += t.combine;
         all.solutions += t.solutions;
         all.with_path += t.with_path;
     }
@@ -300,6 +349,7 @@ pub fn main() {
     let flags = Flags {
         no_wrapper: flag("--no-wrapper"),
         numbers: flag("--numbers"),
+        combine: flag("--combine"),
     };
     let args: Vec<&str> = args.iter().map(|s| s.as_str()).collect();
     let stdin = || {
@@ -345,8 +395,8 @@ pub fn main() {
         ["--given"] => print!("{}", include_str!(concat!(env!("OUT_DIR"), "/given.txt"))),
         _ => {
             eprintln!(
-                "oracle [--no-wrapper] [--numbers] < CASE\n\
-                 oracle --batch [FILE] [--no-wrapper] [--numbers]\n\
+                "oracle [--no-wrapper] [--numbers] [--combine] < CASE\n\
+                 oracle --batch [FILE] [--no-wrapper] [--numbers] [--combine]\n\
                  oracle --bench FILE N [--each]\n\
                  oracle --glue FILE, with the feature glue\n\
                  oracle --given"

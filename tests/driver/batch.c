@@ -1,4 +1,4 @@
-/* batch FILE: lists every case and assembles every record; the text is described in oracle/README.md. */
+/* batch FILE: lists every case and its routes and assembles every record; the text is described in oracle/README.md. */
 #include <inttypes.h>
 #include <stdio.h>
 #include <string.h>
@@ -10,7 +10,7 @@
 /* Bytes that the text shows of a fingerprint, as the oracle's does. */
 #define FINGERPRINT_SHOWN 4
 
-static uint8_t list[COMBINATOR_LIST_SIZE];
+static uint8_t list[COMBINATOR_LIST_SIZE], routes[COMBINATOR_LIST_SIZE];
 static uint8_t path[COMBINATOR_PATH_SIZE];
 
 static void print_hex(const uint8_t *p, size_t n)
@@ -93,6 +93,33 @@ static void print_solution(const struct input *c, const uint8_t *record, size_t 
     putchar('\n');
 }
 
+/* Each route by its number in the list. */
+static void print_routes(const struct input *c, size_t count, size_t at)
+{
+    uint32_t answer = COMBINATOR_CUT, i;
+    size_t k;
+    if (c->book) {
+        memset(routes, 0xa5, sizeof routes);
+        answer = combinator_routes(c->src, c->dst, c->book, c->book_len, routes, sizeof routes);
+    }
+    printf("routes");
+    if (COMBINATOR_IS_REFUSAL(answer)) {
+        printf(" refused %" PRIu32, COMBINATOR_REFUSAL(answer));
+        answer = 0;
+    }
+    for (i = 0; i < answer; i++) {
+        for (k = 0; k < count && memcmp(list + COMBINATOR_RECORD_SIZE * k, routes + COMBINATOR_RECORD_SIZE * i, COMBINATOR_RECORD_SIZE); k++)
+            ;
+        if (k == count)
+            fail("case %zu: a route that is not in the list", at);
+        printf(" %zu", k + 1);
+    }
+    for (k = COMBINATOR_RECORD_SIZE * answer; c->book && k < sizeof routes; k++)
+        if (routes[k])
+            fail("case %zu: bytes after the routes", at);
+    putchar('\n');
+}
+
 int batch_mode(int args, char **arg)
 {
     uint8_t *batch;
@@ -118,6 +145,7 @@ int batch_mode(int args, char **arg)
         }
         for (i = 0; i < count; i++)
             print_solution(&c, records + COMBINATOR_RECORD_SIZE * i, n);
+        print_routes(&c, records == list ? count : 0, n);
         puts("---");
     }
     if (fflush(stdout))

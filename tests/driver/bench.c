@@ -1,6 +1,7 @@
-/* bench FILE OUT_LEN: one pass over a batch, with the times of each case; tests/bench runs it many times, in turn with
+/* bench FILE OUT_LEN: a pass over a batch, with the times of each case; tests/bench runs it many times, in turn with
  * the Rust. The outputs are lent once and not cleared between calls: the library zeroes what it does not fill, and that
- * is part of its time. The book is read once before: the Rust has its segments in the cache too, having just decoded them. */
+ * is part of its time. The book is read once before: the Rust has its segments in the cache too, having just decoded them.
+ * Routes are timed in a second pass, so that no call finds what another has just read. */
 #include <inttypes.h>
 #include <stdio.h>
 #include <stdlib.h>
@@ -16,11 +17,39 @@ static void touch(const volatile uint8_t *bytes, size_t len)
         (void)bytes[i];
 }
 
+/* What one case took. */
+struct times {
+    uint32_t answer, paths, bare;
+    uint64_t listed, assembled;
+};
+
+static uint8_t path[COMBINATOR_PATH_SIZE], *list;
+static size_t out_len;
+
+static struct times list_and_assemble(const struct input *c)
+{
+    struct times t = {0, 0, 0, 0, 0};
+    uint64_t start;
+    uint32_t i;
+    touch(c->book, c->book_len);
+    start = now_ns();
+    t.answer = combinator_list(c->src, c->dst, c->book, c->book_len, list, out_len);
+    t.listed = now_ns() - start;
+    for (i = 0; !COMBINATOR_IS_REFUSAL(t.answer) && i < t.answer; i++) {
+        uint32_t a = combinator_assemble(c->src, c->dst, c->book, c->book_len, list + COMBINATOR_RECORD_SIZE * i, COMBINATOR_RECORD_SIZE, path,
+                                         sizeof path);
+        t.paths += a == COMBINATOR_PATH;
+        t.bare += a == COMBINATOR_BARE;
+    }
+    t.assembled = now_ns() - start;
+    return t;
+}
+
 int bench_mode(int args, char **arg)
 {
-    static uint8_t path[COMBINATOR_PATH_SIZE];
-    uint8_t *batch, *list;
-    size_t len, out_len, at = 0, n, i;
+    uint8_t *batch;
+    struct times *times = NULL;
+    size_t len, at, n, room = 0;
     struct input c;
     if (args != 2)
         usage("driver bench FILE OUT_LEN");
@@ -29,25 +58,23 @@ int bench_mode(int args, char **arg)
     list = resize(NULL, out_len);
     memset(list, 1, out_len);
     memset(path, 1, sizeof path);
-    for (n = 0; next_case(batch, len, &at, &c); n++) {
-        uint64_t start, listed, assembled;
-        uint32_t answer, paths = 0, bare = 0, count;
+    for (n = 0, at = 0; next_case(batch, len, &at, &c); n++) {
+        if (n == room)
+            times = grow(times, &room, sizeof *times);
+        if (c.book)
+            times[n] = list_and_assemble(&c);
+    }
+    for (n = 0, at = 0; next_case(batch, len, &at, &c); n++) {
+        const struct times *t = &times[n];
+        uint64_t start;
+        uint32_t routes;
         if (!c.book)
             continue;
         touch(c.book, c.book_len);
         start = now_ns();
-        answer = combinator_list(c.src, c.dst, c.book, c.book_len, list, out_len);
-        listed = now_ns();
-        count = COMBINATOR_IS_REFUSAL(answer) ? 0 : answer;
-        for (i = 0; i < count; i++) {
-            uint32_t a = combinator_assemble(c.src, c.dst, c.book, c.book_len, list + COMBINATOR_RECORD_SIZE * i, COMBINATOR_RECORD_SIZE, path,
-                                             sizeof path);
-            paths += a == COMBINATOR_PATH;
-            bare += a == COMBINATOR_BARE;
-        }
-        assembled = now_ns();
-        printf("case %zu answer %" PRIu32 " paths %" PRIu32 " bare %" PRIu32 " a_ns %" PRIu64 " b_ns %" PRIu64 "\n", n, answer, paths, bare,
-               listed - start, assembled - start);
+        routes = combinator_routes(c.src, c.dst, c.book, c.book_len, list, out_len);
+        printf("case %zu answer %" PRIu32 " paths %" PRIu32 " bare %" PRIu32 " routes %" PRIu32 " a_ns %" PRIu64 " b_ns %" PRIu64 " routes_ns %" PRIu64 "\n", n,
+               t->answer, t->paths, t->bare, routes, t->listed, t->assembled, now_ns() - start);
     }
     return 0;
 }

@@ -202,6 +202,105 @@ size_t build_links(uint8_t *out, unsigned half)
     return build_book(&b, out);
 }
 
+/* A segment of every entry, from `top` to `leaf`, of ASes that only its kind has: each with two interfaces of id `id`, and `peers` peers. */
+static void full_segment(int core, uint64_t top, uint64_t leaf, uint32_t timestamp, unsigned number, unsigned id, unsigned peers)
+{
+    unsigned j, p;
+    build_segment(&b, core, timestamp, number);
+    for (j = 0; j < COMBINATOR_MAX_ENTRIES; j++) {
+        int last = j + 1 == COMBINATOR_MAX_ENTRIES;
+        build_entry(&b, j == 0 ? top : last ? leaf : (leaf << 8) + j, j == 0 ? 0 : id, last ? 0 : id, 0x010203040506 + number);
+        b.entry[COMBINATOR_ENTRY_UNITS] = UINT8_MAX;
+        for (p = 0; p < peers; p++)
+            build_peer(&b, AS_DESTINATION + 0x2000, 1, 1 + p, 1, 0);
+    }
+}
+
+/* Where the three kinds of segments meet: up from the source to X, core from X to Y, down from Y to the destination. */
+#define AS_X (AS_DESTINATION + 0x100)
+#define AS_Y (AS_DESTINATION + 0x200)
+
+size_t build_long(uint8_t *out, unsigned peers, int copies)
+{
+    unsigned side = 1, kind, i;
+    while (side * side * side < COMBINATOR_MAX_SOLUTIONS)
+        side++;
+    if (side * side * side != COMBINATOR_MAX_SOLUTIONS)
+        fail("no book has just as many chains as there are slots");
+    build_start(&b);
+    for (kind = 0; kind < COMBINATOR_MAX_EDGES; kind++)
+        for (i = 0; i < side; i++)
+            full_segment(kind == 0, kind == 1 ? AS_X : AS_Y, kind == 0 ? AS_X : kind == 1 ? AS_SOURCE : AS_DESTINATION,
+                         1000000 + (copies ? i : 0), i, copies ? 1 : 1 + i, peers);
+    return build_book(&b, out);
+}
+
+/* The mark of a list of interfaces (crates/path/src/mark.rt) is a polynomial in a key modulo PRIME, of which an interface is a coefficient: its
+ * id, ISD and the two halves of its AS, each times a key. TURN is that key where there are few solutions. Small numbers d with
+ * d[0] * t^2 + d[1] * t + d[2] = 0 leave the mark as it is: for t = TURN, added to three ids that follow each other; for t = TURN^2, added to
+ * the last two bytes of three ASes that do, each of two interfaces. */
+#define PRIME INT64_C(0x7fffffff)
+#define TURN INT64_C(0x27ae41e4)
+#define SMALL 2000
+
+static void find_step(int64_t t, int d[3])
+{
+    int64_t square = t * t % PRIME;
+    for (d[0] = 1; d[0] < SMALL; d[0]++)
+        for (d[1] = -SMALL; d[1] < SMALL; d[1]++) {
+            int64_t rest = (d[0] * square + (d[1] + PRIME) % PRIME * t) % PRIME;
+            if (rest < SMALL || rest > PRIME - SMALL) {
+                d[2] = (int)(rest < SMALL ? -rest : PRIME - rest);
+                return;
+            }
+        }
+    fail("no lists of one mark");
+}
+
+static void add(uint8_t *at, int n)
+{
+    put16(at, (unsigned)((int)number16(at) + n));
+}
+
+/* Adds `times` d to the last three ids that the path shows of the segment added last. Up and core segments are passed from the last entry to
+ * the first. */
+static void step_ids(int down, int times, const int d[3])
+{
+    uint8_t *last = down ? b.entry : b.entry - (COMBINATOR_MAX_ENTRIES - 1) * COMBINATOR_ENTRY_SIZE;
+    uint8_t *before = down ? last - COMBINATOR_ENTRY_SIZE : last + COMBINATOR_ENTRY_SIZE;
+    add(before + (down ? COMBINATOR_ENTRY_INGRESS : COMBINATOR_ENTRY_EGRESS), times * d[0]);
+    add(before + (down ? COMBINATOR_ENTRY_EGRESS : COMBINATOR_ENTRY_INGRESS), times * d[1]);
+    add(last + (down ? COMBINATOR_ENTRY_INGRESS : COMBINATOR_ENTRY_EGRESS), times * d[2]);
+}
+
+/* ... to the ASes of the last three entries before that, which are no other segment's. */
+static void step_ases(int down, int times, const int d[3])
+{
+    int k;
+    for (k = 0; k < 3; k++) {
+        int back = down ? 3 - k : COMBINATOR_MAX_ENTRIES - 4 + k;
+        uint8_t *as = b.entry - back * COMBINATOR_ENTRY_SIZE + COMBINATOR_ENTRY_AS;
+        put64(as, (number64(b.entry + COMBINATOR_ENTRY_AS) << 16) + 0x6000 + 0x2000 * (unsigned)k);
+        add(as + COMBINATOR_AS_SIZE - 2, times * d[k]);
+    }
+}
+
+size_t build_colliding(uint8_t *out, enum colliding how)
+{
+    static const unsigned few[] = {4, 8, 4}, many[] = {16, 16, 16};
+    const unsigned *sides = how == MANY_IDS ? many : few;
+    unsigned kind, i;
+    int d[3];
+    find_step(how == FEW_ASES ? TURN * TURN % PRIME : TURN, d);
+    build_start(&b);
+    for (kind = 0; kind < COMBINATOR_MAX_EDGES; kind++)
+        for (i = 0; i < sides[kind]; i++) {
+            full_segment(kind == 0, kind == 1 ? AS_X : AS_Y, kind == 0 ? AS_X : kind == 1 ? AS_SOURCE : AS_DESTINATION, 1000000, i, 0x8000, 0);
+            (how == FEW_ASES ? step_ases : step_ids)(kind == 2, (int)i, d);
+        }
+    return build_book(&b, out);
+}
+
 size_t build_alike(uint8_t *out, unsigned segments)
 {
     unsigned i, j;

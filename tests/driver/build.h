@@ -67,6 +67,17 @@ size_t build_worst(uint8_t *out, unsigned half, unsigned entries, unsigned peers
  * held against every peer of the other, and there is no solution. */
 size_t build_links(uint8_t *out, unsigned half);
 
+/* As many chains as there are slots, each over three segments of every entry and so of 90 interfaces, with `peers` peers to an entry
+ * that lead nowhere. Each chain is a route of its own, or with `copies` > 0 all are one, of a timestamp that grows. */
+size_t build_long(uint8_t *out, unsigned peers, int copies);
+
+/* Chains like these, each a route of its own, whose interface lists have one and the same mark by the keys that hold for few solutions
+ * (crates/path/src/mark.rt): COLLIDING chains, the most that these keys are used for, that differ in ids or in ASes; or as many as there are
+ * slots, which would take seconds by these keys. */
+#define COLLIDING 128
+enum colliding { FEW_IDS, FEW_ASES, MANY_IDS };
+size_t build_colliding(uint8_t *out, enum colliding how);
+
 /* Segments of one timestamp and id whose bodies differ in the last MAC alone: every body is held against every other. */
 size_t build_alike(uint8_t *out, unsigned segments);
 

@@ -1,7 +1,7 @@
 /* fuzz SEED COUNT|SECONDSs [FIRST] [--undefined]
  *
  * First a fixed sweep: every length near each boundary, every output length near a slot's end, every byte of a record
- * changed to every value. Then COUNT turns, or as many as SECONDS allow. A turn draws its choices from SEED and its own
+ * changed to every value, the dearest books. Then COUNT turns, or as many as SECONDS allow. A turn draws its choices from SEED and its own
  * number alone, so that FIRST (with COUNT 1) runs one turn again.
  *
  * Every call is held to the model in all of its output and in its answer. Its buffers have guard bytes on both sides and
@@ -131,8 +131,11 @@ struct longest {
     uint32_t answer;
 };
 
-static struct longest longest_list, longest_assemble;
-static uint64_t refused[COMBINATOR_LAST_REFUSAL + 1], paths, loops, bares;
+enum kind { LISTING, ROUTES, ASSEMBLY, KINDS };
+
+static const char *const call_name[KINDS] = {"listing", "routes", "assembly"};
+static struct longest longest[KINDS];
+static uint64_t refused[COMBINATOR_LAST_REFUSAL + 1], routes, paths, loops, bares;
 
 static void print_bytes(const char *name, const uint8_t *p, size_t n)
 {
@@ -169,7 +172,7 @@ static uint8_t expected[MAX_OUT];
 #define TRIES 5
 
 struct call {
-    int assemble;
+    enum kind kind;
     const uint8_t *book, *record;
     uint8_t *out;
     size_t out_len;
@@ -178,10 +181,32 @@ struct call {
 static uint32_t timed(const struct call *c, uint64_t *ns)
 {
     uint64_t start = work_ns();
-    uint32_t answer = c->assemble ? combinator_assemble(now.src, now.dst, c->book, now.book_len, c->record, now.record_len, c->out, c->out_len)
-                                  : combinator_list(now.src, now.dst, c->book, now.book_len, c->out, c->out_len);
+    uint32_t answer;
+    switch (c->kind) {
+    case LISTING:
+        answer = combinator_list(now.src, now.dst, c->book, now.book_len, c->out, c->out_len);
+        break;
+    case ROUTES:
+        answer = combinator_routes(now.src, now.dst, c->book, now.book_len, c->out, c->out_len);
+        break;
+    default:
+        answer = combinator_assemble(now.src, now.dst, c->book, now.book_len, c->record, now.record_len, c->out, c->out_len);
+    }
     *ns = work_ns() - start;
     return answer;
+}
+
+/* What the model answers to a call that may write `out_len` bytes to `expected`. */
+static uint32_t wanted(enum kind kind, size_t out_len)
+{
+    switch (kind) {
+    case LISTING:
+        return model_list(now.src, now.dst, now.book, now.book_len, expected, out_len);
+    case ROUTES:
+        return model_routes(now.src, now.dst, now.book, now.book_len, expected, out_len);
+    default:
+        return model_assemble(now.src, now.dst, now.book, now.book_len, now.record, now.record_len, expected, out_len);
+    }
 }
 
 static uint64_t least(const struct call *c, uint64_t ns)
@@ -196,15 +221,15 @@ static uint64_t least(const struct call *c, uint64_t ns)
     return ns;
 }
 
-/* Listing, or assembly of now.record. The output that came is at the returned place until the next call. */
-static const uint8_t *check(int assemble, size_t out_len, uint32_t *answered)
+/* Listing, routes, or assembly of now.record. The output that came is at the returned place until the next call. */
+static const uint8_t *check(enum kind kind, size_t out_len, uint32_t *answered)
 {
     enum where book_at = (enum where)pick(PLACES), record_at = (enum where)pick(PLACES), out_at = (enum where)pick(PLACES);
     uint8_t *book = place(&book_area, book_at, now.book_len), *record = place(&record_area, record_at, now.record_len);
     uint8_t *out = place(&out_area, out_at, out_len);
-    const char *call = assemble ? "assembly" : "listing";
-    struct longest *longest = assemble ? &longest_assemble : &longest_list;
-    struct call it = {assemble, book, record, out, out_len};
+    const char *call = call_name[kind];
+    struct longest *most = &longest[kind];
+    struct call it = {kind, book, record, out, out_len};
     uint32_t answer, want;
     uint64_t ns;
     size_t i;
@@ -215,8 +240,7 @@ static const uint8_t *check(int assemble, size_t out_len, uint32_t *answered)
         memcpy(record, now.record, now.record_len);
     if (!(undefined && out_at == IN_HEAP))
         memset(out, (int)pick(256), out_len);
-    want = assemble ? model_assemble(now.src, now.dst, now.book, now.book_len, now.record, now.record_len, expected, out_len)
-                    : model_list(now.src, now.dst, now.book, now.book_len, expected, out_len);
+    want = wanted(kind, out_len);
     answer = timed(&it, &ns);
 
     if (!guards_hold(out, out_at, out_len))
@@ -234,26 +258,28 @@ static const uint8_t *check(int assemble, size_t out_len, uint32_t *answered)
     if (out_len && memcmp(out, expected, out_len))
         wrong(call, "another output", out_len, answer, want);
 
-    longest->calls++;
-    if (ns > longest->ns)
+    most->calls++;
+    if (ns > most->ns)
         ns = least(&it, ns);
     /* Not under valgrind, which makes all slower. */
-    if (!undefined && ns > (assemble ? COMBINATOR_ASSEMBLE_NS : COMBINATOR_LIST_NS))
+    if (!undefined && ns > (kind == ASSEMBLY ? COMBINATOR_ASSEMBLE_NS : COMBINATOR_LIST_NS))
         wrong(call, "longer than stated", out_len, answer, want);
-    if (ns > longest->ns) {
-        longest->ns = ns;
-        longest->turn = now.turn;
-        longest->book_len = now.book_len;
-        longest->answer = answer;
+    if (ns > most->ns) {
+        most->ns = ns;
+        most->turn = now.turn;
+        most->book_len = now.book_len;
+        most->answer = answer;
     }
     if (COMBINATOR_IS_REFUSAL(answer))
         refused[COMBINATOR_REFUSAL(answer)]++;
-    else if (assemble) {
+    else if (kind == ROUTES) {
+        routes += answer;
+    } else if (kind == ASSEMBLY) {
         paths += answer == COMBINATOR_PATH;
         loops += answer == COMBINATOR_LOOP;
         bares += answer == COMBINATOR_BARE;
     }
-    if (assemble && answer == COMBINATOR_PATH) {
+    if (kind == ASSEMBLY && answer == COMBINATOR_PATH) {
         struct input c;
         const char *disagrees;
         c.src = now.src;
@@ -269,11 +295,13 @@ static const uint8_t *check(int assemble, size_t out_len, uint32_t *answered)
     return out;
 }
 
+/* Listing, then routes with the same arguments; what listing answers. */
 static uint32_t check_list(size_t out_len)
 {
     uint32_t answer;
     now.record_len = 0;
-    check(0, out_len, &answer);
+    check(ROUTES, out_len, NULL);
+    check(LISTING, out_len, &answer);
     return answer;
 }
 
@@ -283,7 +311,7 @@ static uint32_t check_record(const uint8_t *record, size_t record_len, size_t ou
     if (record_len)
         memmove(now.record, record, record_len);
     now.record_len = record_len;
-    check(1, out_len, &answer);
+    check(ASSEMBLY, out_len, &answer);
     return answer;
 }
 
@@ -365,6 +393,67 @@ static void draw_book(void)
     now.dst = leaves && !one_in(4) ? leaf[pick(leaves)] : as[pick(ases)];
     if (now.src == now.dst && !one_in(8))
         now.dst = as[pick(ases)];
+}
+
+/* Times and lives of which sums rise, fall and tie: 675 seconds are two units. */
+static uint32_t some_time(void)
+{
+    return 1000000 + 675 * pick(4) + (one_in(4) ? 337 + pick(2) : 0);
+}
+
+static unsigned some_units(void)
+{
+    return one_in(6) ? (unsigned)draw() & UINT8_MAX : 2 * pick(4) + pick(2);
+}
+
+/* The entries of the segment added last, which have no peers: the copy's own bytes, and now and then one that makes another route, or
+ * that no path shows: the ingress where a shortcut is. */
+static void vary_copy(uint64_t middle)
+{
+    unsigned n = number16(b.head + COMBINATOR_HEAD_ENTRY_COUNT), i;
+    uint8_t *entry = b.bodies + b.length - COMBINATOR_ENTRY_SIZE * n, *some = entry + COMBINATOR_ENTRY_SIZE * pick(n);
+    for (i = 0; i < n; i++, entry += COMBINATOR_ENTRY_SIZE) {
+        if (one_in(2))
+            entry[COMBINATOR_ENTRY_UNITS] = (uint8_t)some_units();
+        if (one_in(2))
+            put(entry + COMBINATOR_ENTRY_MAC, COMBINATOR_MAC_SIZE, draw());
+    }
+    if (one_in(3))
+        put16(some + COMBINATOR_ENTRY_INGRESS, pick(4));
+    else if (one_in(4))
+        put16(some + COMBINATOR_ENTRY_EGRESS, pick(4));
+    if (n > 2 && one_in(4))
+        put64(b.bodies + b.length - COMBINATOR_ENTRY_SIZE * (n - 1) + COMBINATOR_ENTRY_AS, middle);
+}
+
+/* A few segments, each issued several times: routes with several copies, the expiries of which rise, fall and tie. Over one middle the
+ * up and down segments have shortcuts, beside chains that loop. */
+static void draw_reissued(void)
+{
+    uint64_t x = AS_DESTINATION + 0x100, y = AS_DESTINATION + (one_in(3) ? 0x100 : 0x200), middle[3];
+    unsigned kinds = 3 + pick(3), kind, copies, i;
+    for (i = 0; i < 3; i++)
+        middle[i] = AS_DESTINATION + 0x300 + pick(3);
+    build_start(&b);
+    for (kind = 0; kind < kinds; kind++) {
+        int core = kind == 0, up = kind % 2;
+        uint64_t leaf = core ? x : up ? AS_SOURCE : AS_DESTINATION;
+        if (core && one_in(3))
+            continue;
+        build_segment(&b, core, some_time(), pick(4));
+        build_entry(&b, up || (core && one_in(4)) ? x : y, 0, 1 + pick(2), draw());
+        if (!one_in(4))
+            build_entry(&b, middle[kind % 3], 1 + pick(2), 1 + pick(2), draw());
+        build_entry(&b, leaf, 1 + pick(2), 0, draw());
+        vary_copy(middle[0]);
+        for (copies = pick(5); copies > 0; copies--) {
+            build_again(&b, core, some_time(), pick(4));
+            vary_copy(middle[pick(3)]);
+        }
+    }
+    now.book_len = build_book(&b, now.book);
+    now.src = AS_SOURCE;
+    now.dst = one_in(16) ? AS_SOURCE : AS_DESTINATION;
 }
 
 static unsigned segment_count(void)
@@ -514,7 +603,8 @@ static void use_book(unsigned records)
     size_t room = one_in(8) ? COMBINATOR_LIST_SIZE : SLOTS(LISTED);
     const uint8_t *out;
     now.record_len = 0;
-    out = check(0, room, &answer);
+    check(ROUTES, room, NULL);
+    out = check(LISTING, room, &answer);
     n = COMBINATOR_IS_REFUSAL(answer) ? 0 : answer < LISTED ? answer : LISTED;
     memcpy(listed, out, SLOTS(n));
     check_list(some_out_len(COMBINATOR_IS_REFUSAL(answer) ? 0 : answer));
@@ -551,7 +641,7 @@ static void turn(uint64_t seed, uint64_t number_of_turn)
     state = seed * UINT64_C(0xd1342543de82ef95) + number_of_turn;
     draw();
     now.turn = number_of_turn;
-    switch (pick(10)) {
+    switch (pick(12)) {
     case 0:
         now.kind = "random bytes";
         random_bytes();
@@ -564,6 +654,12 @@ static void turn(uint64_t seed, uint64_t number_of_turn)
         now.kind = "a book";
         draw_book();
         use_book(16);
+        break;
+    case 9:
+    case 10:
+        now.kind = "segments issued again";
+        draw_reissued();
+        use_book(4);
         break;
     case 5:
         now.kind = "bytes changed";
@@ -751,13 +847,38 @@ static void sweep_outputs(void)
     }
     now.book_len = build_worked(now.book);
     now.record_len = 0;
-    memcpy(listed, check(0, SLOTS(4), NULL), SLOTS(1));
+    memcpy(listed, check(LISTING, SLOTS(4), NULL), SLOTS(1));
     for (n = 0; n < 80; n++)
         check_record(listed, SLOTS(1), n);
     for (n = COMBINATOR_PATH_SIZE - 20; n < COMBINATOR_PATH_SIZE + 60; n++)
         check_record(listed, SLOTS(1), n);
     check_record(listed, SLOTS(1), COMBINATOR_LIST_SIZE);
     check_record(listed, SLOTS(1), MAX_OUT);
+}
+
+/* The most work for routes: as many long lists of interfaces as there are slots, all different or all the same, and lists made to be
+ * mistaken for each other. */
+static void sweep_dear(void)
+{
+    unsigned peers;
+    now.kind = "dear routes";
+    for (peers = 0; peers <= 2; peers += 2) {
+        now.book_len = build_long(now.book, peers, 0);
+        if (check_list(COMBINATOR_LIST_SIZE) != COMBINATOR_MAX_SOLUTIONS)
+            fail("the sweep's longest routes are refused");
+        now.book_len = build_long(now.book, peers, 1);
+        if (check_list(COMBINATOR_LIST_SIZE) != COMBINATOR_MAX_SOLUTIONS)
+            fail("the sweep's copies are refused");
+    }
+    now.book_len = build_colliding(now.book, FEW_IDS);
+    if (check_list(COMBINATOR_LIST_SIZE) != COLLIDING)
+        fail("the sweep's routes of one mark");
+    now.book_len = build_colliding(now.book, FEW_ASES);
+    if (check_list(COMBINATOR_LIST_SIZE) != COLLIDING)
+        fail("the sweep's routes of one mark over other ASes");
+    now.book_len = build_colliding(now.book, MANY_IDS);
+    if (check_list(COMBINATOR_LIST_SIZE) != COMBINATOR_MAX_SOLUTIONS)
+        fail("the sweep's many routes of one mark");
 }
 
 /* Every byte of every record to every value, and every length of a record. */
@@ -777,7 +898,7 @@ static void sweep_records(void)
         else
             now.book_len = build_few(now.book, 3, 4, 1);
         now.record_len = 0;
-        out = check(0, SLOTS(LISTED), &count);
+        out = check(LISTING, SLOTS(LISTED), &count);
         if (COMBINATOR_IS_REFUSAL(count))
             fail("the sweep's book %u is refused", book);
         n = count < LISTED ? count : LISTED;
@@ -807,6 +928,7 @@ static void sweep(void)
     sweep_lengths();
     sweep_bodies();
     sweep_outputs();
+    sweep_dear();
     sweep_records();
 }
 
@@ -847,9 +969,9 @@ int fuzz_mode(int args, char **arg)
     }
     printf("seed %" PRIu64 ", %" PRIu64 " turns: every answer and output as the model's, no byte written beside a buffer%s\n", seed, turns,
            undefined ? "" : ", no call longer than stated");
-    report("listing", &longest_list);
-    report("assembly", &longest_assemble);
-    printf("assembly gave %" PRIu64 " paths, %" PRIu64 " loop, %" PRIu64 " bare; refusals", paths, loops, bares);
+    for (i = 0; i < KINDS; i++)
+        report(call_name[i], &longest[i]);
+    printf("%" PRIu64 " routes; assembly gave %" PRIu64 " paths, %" PRIu64 " loop, %" PRIu64 " bare; refusals", routes, paths, loops, bares);
     for (i = 1; i <= COMBINATOR_LAST_REFUSAL; i++)
         printf(" %u: %" PRIu64, i, refused[i]);
     printf("\n");

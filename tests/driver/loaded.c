@@ -30,6 +30,13 @@ uint32_t combinator_list(uint64_t src, uint64_t dst, const uint8_t *book, size_t
     return list(src, dst, book, book_len, out, out_len);
 }
 
+uint32_t combinator_routes(uint64_t src, uint64_t dst, const uint8_t *book, size_t book_len, uint8_t *out, size_t out_len)
+{
+    uint32_t (*routes)(uint64_t, uint64_t, const uint8_t *, size_t, uint8_t *, size_t);
+    load("combinator_routes", &routes, sizeof routes);
+    return routes(src, dst, book, book_len, out, out_len);
+}
+
 uint32_t combinator_assemble(uint64_t src, uint64_t dst, const uint8_t *book, size_t book_len, const uint8_t *record, size_t record_len,
                              uint8_t *out, size_t out_len)
 {

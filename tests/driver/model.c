@@ -162,6 +162,9 @@ static struct {
     struct chain *chain;
     size_t chains, chain_room;
     uint8_t *record;
+    int routes_known;
+    struct route *route;
+    size_t routes, route_room;
 } m;
 
 static struct vertex as_vertex(uint64_t as)
@@ -453,6 +456,7 @@ static void work_out(uint64_t src, uint64_t dst, const uint8_t *book, size_t len
     int same = m.known && m.len == len && !memcmp(m.book, book, len);
     if (same && m.src == src && m.dst == dst)
         return;
+    m.routes_known = 0;
     m.src = src;
     m.dst = dst;
     if (!same) {
@@ -617,16 +621,27 @@ static void put_path(uint8_t *out, const struct path *p)
         put16(out, p->interface[i].id);
 }
 
+/* The path of a chain: COMBINATOR_PATH, COMBINATOR_LOOP or COMBINATOR_BARE. */
+static uint32_t find_path(struct path *path, const struct chain *c)
+{
+    unsigned i;
+    memset(path, 0, sizeof *path);
+    path->mtu = UINT16_MAX;
+    path->expiry = UINT32_MAX;
+    for (i = 0; i < c->edges; i++)
+        add_edge(path, c->edge[i]);
+    return path->interfaces == 0 ? COMBINATOR_BARE : loops(path) ? COMBINATOR_LOOP : COMBINATOR_PATH;
+}
+
 uint32_t model_assemble(uint64_t src, uint64_t dst, const uint8_t *book, size_t book_len, const uint8_t *record,
                         size_t record_len, uint8_t *out, size_t out_len)
 {
-    uint32_t refusal = verdict(book, book_len);
+    uint32_t answer = verdict(book, book_len);
     struct path path;
-    unsigned i;
     size_t c;
     memset(out, 0, out_len);
-    if (refusal)
-        return refusal;
+    if (answer)
+        return answer;
     if (out_len < COMBINATOR_PATH_SIZE)
         return COMBINATOR_SMALL;
     work_out(src, dst, book, book_len);
@@ -635,15 +650,70 @@ uint32_t model_assemble(uint64_t src, uint64_t dst, const uint8_t *book, size_t 
             break;
     if (c == m.chains)
         return COMBINATOR_STRANGER;
-    memset(&path, 0, sizeof path);
-    path.mtu = UINT16_MAX;
-    path.expiry = UINT32_MAX;
-    for (i = 0; i < m.chain[c].edges; i++)
-        add_edge(&path, m.chain[c].edge[i]);
-    if (path.interfaces == 0)
-        return COMBINATOR_BARE;
-    if (loops(&path))
-        return COMBINATOR_LOOP;
-    put_path(out, &path);
-    return COMBINATOR_PATH;
+    answer = find_path(&path, &m.chain[c]);
+    if (answer == COMBINATOR_PATH)
+        put_path(out, &path);
+    return answer;
+}
+
+/* ---- routes: the chains with a path, one for each list of interfaces */
+
+/* A route: its interfaces, the chain that is held for it, and the expiry of that chain's path. */
+struct route {
+    unsigned interfaces;
+    struct interface interface[COMBINATOR_MAX_INTERFACES];
+    size_t chain;
+    uint64_t expiry;
+};
+
+static int is_route(const struct route *r, const struct path *p)
+{
+    unsigned i;
+    if (r->interfaces != p->interfaces)
+        return 0;
+    for (i = 0; i < p->interfaces; i++)
+        if (r->interface[i].as != p->interface[i].as || r->interface[i].id != p->interface[i].id)
+            return 0;
+    return 1;
+}
+
+/* The first chain of a route gives it its place; a later one is held there in its stead only if its path lives longer. */
+static void find_routes(void)
+{
+    struct path path;
+    struct route *r;
+    size_t c, i;
+    m.routes = 0;
+    for (c = 0; c < m.chains; c++) {
+        if (find_path(&path, &m.chain[c]) != COMBINATOR_PATH)
+            continue;
+        for (i = 0; i < m.routes && !is_route(&m.route[i], &path); i++)
+            ;
+        if (i == m.routes) {
+            if (m.routes == m.route_room)
+                m.route = grow(m.route, &m.route_room, sizeof *m.route);
+            r = &m.route[m.routes++];
+            r->interfaces = path.interfaces;
+            memcpy(r->interface, path.interface, sizeof path.interface);
+        } else if (path.expiry <= m.route[i].expiry) {
+            continue;
+        }
+        m.route[i].chain = c;
+        m.route[i].expiry = path.expiry;
+    }
+    m.routes_known = 1;
+}
+
+uint32_t model_routes(uint64_t src, uint64_t dst, const uint8_t *book, size_t book_len, uint8_t *out, size_t out_len)
+{
+    uint32_t answer = model_list(src, dst, book, book_len, out, out_len);
+    size_t i;
+    if (COMBINATOR_IS_REFUSAL(answer))
+        return answer;
+    if (!m.routes_known)
+        find_routes();
+    memset(out, 0, out_len);
+    for (i = 0; i < m.routes; i++)
+        memcpy(out + COMBINATOR_RECORD_SIZE * i, m.record + COMBINATOR_RECORD_SIZE * m.route[i].chain, COMBINATOR_RECORD_SIZE);
+    return (uint32_t)m.routes;
 }

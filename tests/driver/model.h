@@ -48,6 +48,7 @@ const uint8_t *model_records(uint64_t src, uint64_t dst, const uint8_t *book, si
 
 /* What the exported functions answer. */
 uint32_t model_list(uint64_t src, uint64_t dst, const uint8_t *book, size_t book_len, uint8_t *out, size_t out_len);
+uint32_t model_routes(uint64_t src, uint64_t dst, const uint8_t *book, size_t book_len, uint8_t *out, size_t out_len);
 uint32_t model_assemble(uint64_t src, uint64_t dst, const uint8_t *book, size_t book_len, const uint8_t *record,
                         size_t record_len, uint8_t *out, size_t out_len);
 

@@ -1,6 +1,7 @@
-/* replay ANSWERS REFUSALS: the files of tests/stored, whose README gives their form. */
+/* replay ANSWERS REFUSALS ROUTES: the files of tests/stored, whose README gives their form. */
 #include <inttypes.h>
 #include <stdio.h>
+#include <stdlib.h>
 #include <string.h>
 
 #include "combinator.h"
@@ -73,9 +74,23 @@ static void replay_answers(struct file *f)
     printf("%s: %zu cases, %zu solutions, all as stored\n", f->name, cases, solutions);
 }
 
+/* An answer of a refusal's number, or with 0 of none, with the output zero after a refusal and nothing written past it. */
+static void check_refusal(const struct file *f, size_t at, const char *call, uint32_t answer, size_t want, size_t out_len)
+{
+    size_t i;
+    if (want ? answer != COMBINATOR_REFUSED + want : COMBINATOR_IS_REFUSAL(answer))
+        fail("%s: case %zu: the answer of %s is %" PRIu32 ", not refusal %zu", f->name, at, call, answer, want);
+    if (want && !holds(out, 0, out_len))
+        fail("%s: case %zu: the output of %s is not zero", f->name, at, call);
+    for (i = out_len; i < sizeof out; i++)
+        if (out[i] != 0xa5)
+            fail("%s: case %zu: %s has written past the output", f->name, at, call);
+}
+
+/* Routes are refused just where listing is. */
 static void replay_refusals(struct file *f)
 {
-    size_t cases = 0, i;
+    size_t cases = 0;
     for (; f->at < f->len; cases++) {
         struct input c = take_input(f);
         size_t call = take_number(f, 1), out_len = take_number(f, 4), record_len = take_number(f, 2), want;
@@ -87,29 +102,49 @@ static void replay_refusals(struct file *f)
         memset(out, 0xa5, sizeof out);
         answer = call ? combinator_assemble(c.src, c.dst, c.book, c.book_len, record, record_len, out, out_len)
                       : combinator_list(c.src, c.dst, c.book, c.book_len, out, out_len);
-        if (want ? answer != COMBINATOR_REFUSED + want : COMBINATOR_IS_REFUSAL(answer))
-            fail("%s: case %zu: the answer is %" PRIu32 ", not refusal %zu", f->name, cases, answer, want);
-        if (want && !holds(out, 0, out_len))
-            fail("%s: case %zu: the output is not zero", f->name, cases);
-        for (i = out_len; i < sizeof out; i++)
-            if (out[i] != 0xa5)
-                fail("%s: case %zu: written past the output", f->name, cases);
+        check_refusal(f, cases, call ? "assembly" : "listing", answer, want, out_len);
+        if (call)
+            continue;
+        memset(out, 0xa5, sizeof out);
+        answer = combinator_routes(c.src, c.dst, c.book, c.book_len, out, out_len);
+        check_refusal(f, cases, "routes", answer, want, out_len);
     }
     printf("%s: %zu cases, all as stored\n", f->name, cases);
 }
 
+static void replay_routes(struct file *f)
+{
+    size_t cases = 0, routes = 0;
+    for (; f->at < f->len; cases++) {
+        struct input c = take_input(f);
+        size_t out_len = take_number(f, 4), want = take_number(f, 1), count = take_number(f, 2);
+        const uint8_t *records = take(f, COMBINATOR_RECORD_SIZE * count);
+        uint32_t answer;
+        if (out_len > sizeof out)
+            fail("%s: case %zu: an output of %zu bytes", f->name, cases, out_len);
+        memset(out, 0xa5, sizeof out);
+        answer = combinator_routes(c.src, c.dst, c.book, c.book_len, out, out_len);
+        check_refusal(f, cases, "routes", answer, want, out_len);
+        if (!want && (answer != count || !holds(records, COMBINATOR_RECORD_SIZE * count, out_len)))
+            fail("%s: case %zu: routes answers %" PRIu32 ", or other records", f->name, cases, answer);
+        routes += count;
+    }
+    printf("%s: %zu cases, %zu routes, all as stored\n", f->name, cases, routes);
+}
+
 int replay_mode(int args, char **arg)
 {
+    static void (*const replays[])(struct file *) = {replay_answers, replay_refusals, replay_routes};
     struct file f;
-    if (args != 2)
-        usage("driver replay ANSWERS REFUSALS");
-    memset(&f, 0, sizeof f);
-    f.name = arg[0];
-    f.data = read_file(f.name, &f.len);
-    replay_answers(&f);
-    f.name = arg[1];
-    f.at = 0;
-    f.data = read_file(f.name, &f.len);
-    replay_refusals(&f);
+    int i;
+    if (args != 3)
+        usage("driver replay ANSWERS REFUSALS ROUTES");
+    for (i = 0; i < args; i++) {
+        f.name = arg[i];
+        f.at = 0;
+        f.data = read_file(f.name, &f.len);
+        replays[i](&f);
+        free(f.data);
+    }
     return 0;
 }

@@ -10,7 +10,7 @@ static uint8_t book[BUILD_ROOM], list[COMBINATOR_LIST_SIZE], path[COMBINATOR_PAT
 
 static void line(const char *what, unsigned size, size_t book_len)
 {
-    uint64_t begun = now_ns(), listing = UINT64_MAX, assembly = UINT64_MAX, start, listed, assembled;
+    uint64_t begun = now_ns(), listing = UINT64_MAX, assembly = UINT64_MAX, routes = UINT64_MAX, start, listed, assembled, routed;
     uint32_t answer, i;
     unsigned runs;
     if (book_len > COMBINATOR_MAX_BOOK)
@@ -26,16 +26,22 @@ static void line(const char *what, unsigned size, size_t book_len)
                                                           COMBINATOR_RECORD_SIZE, path, sizeof path)))
                 fail("%s %u: a listed record is refused", what, size);
         assembled = now_ns();
+        if (COMBINATOR_IS_REFUSAL(combinator_routes(AS_SOURCE, AS_DESTINATION, book, book_len, list, sizeof list)) != COMBINATOR_IS_REFUSAL(answer))
+            fail("%s %u: routes are refused, or not", what, size);
+        routed = now_ns();
         if (listed - start < listing)
             listing = listed - start;
         if (assembled - listed < assembly)
             assembly = assembled - listed;
+        if (routed - assembled < routes)
+            routes = routed - assembled;
     }
     printf("%-10s %5u %9zu ", what, size, book_len);
     if (answer == COMBINATOR_FULL)
-        printf("%9s %12.2f %12s\n", "full", (double)listing / 1000, "-");
+        printf("%9s %12.2f %12s %12.2f\n", "full", (double)listing / 1000, "-", (double)routes / 1000);
     else
-        printf("%9" PRIu32 " %12.2f %12.2f\n", answer, (double)listing / 1000, answer ? (double)assembly / 1000 / answer : 0.0);
+        printf("%9" PRIu32 " %12.2f %12.2f %12.2f\n", answer, (double)listing / 1000, answer ? (double)assembly / 1000 / answer : 0.0,
+               (double)routes / 1000);
 }
 
 int scale_mode(int args, char **arg)
@@ -44,8 +50,9 @@ int scale_mode(int args, char **arg)
     (void)arg;
     if (args)
         usage("driver scale");
-    printf("Listing into %d bytes, not cleared before; assembly of every solution into %d.\n", COMBINATOR_LIST_SIZE, COMBINATOR_PATH_SIZE);
-    printf("%-10s %5s %9s %9s %12s %12s\n", "growing", "size", "bytes", "solutions", "listing us", "assembly us");
+    printf("Listing and routes into %d bytes, not cleared before; assembly of every solution into %d, the time of one.\n", COMBINATOR_LIST_SIZE,
+           COMBINATOR_PATH_SIZE);
+    printf("%-10s %5s %9s %9s %12s %12s %12s\n", "growing", "size", "bytes", "solutions", "listing us", "assembly us", "routes us");
     /* Two of the segments make one chain, the others lead elsewhere. */
     for (n = 1; n <= COMBINATOR_MAX_SEGMENTS; n = n < 4 ? n + 1 : n < 16 ? n + 4 : n + 16)
         line("segments", n, build_few(book, n, 4, 0));
@@ -71,5 +78,13 @@ int scale_mode(int args, char **arg)
         line("links", n, build_links(book, n));
     for (n = 1; n <= COMBINATOR_MAX_SEGMENTS; n *= 2)
         line("alike", n, build_alike(book, n));
+    /* The longest lists of interfaces: all different, all the same, and as near to each other as can be made. */
+    for (n = 0; n <= 2; n += 2) {
+        line("routes", n, build_long(book, n, 0));
+        line("copies", n, build_long(book, n, 1));
+    }
+    line("colliding", COLLIDING, build_colliding(book, FEW_IDS));
+    line("colliding", COLLIDING, build_colliding(book, FEW_ASES));
+    line("colliding", COMBINATOR_MAX_SOLUTIONS, build_colliding(book, MANY_IDS));
     return 0;
 }

@@ -1,4 +1,4 @@
-/* stack [FILE...]: the most stack that one call took, on the driver's own books and on those of batches. A thread runs
+/* stack [FILE...]: the most stack that one call took, on the driver's own books and on those of batches; fails above what the header states. A thread runs
  * on a painted stack; what a call has changed below its caller is counted. */
 #include <inttypes.h>
 #include <pthread.h>
@@ -16,12 +16,15 @@
 #define MARGIN 1024
 
 static uint8_t *stack, book[BUILD_ROOM], list[COMBINATOR_LIST_SIZE], path[COMBINATOR_PATH_SIZE];
-static size_t most_list, most_assemble;
+enum kind { LISTING, ROUTES, ASSEMBLY, KINDS };
+
+static size_t most[KINDS];
 
 /* One call, and what it needed. */
 struct call {
     const struct input *c;
-    const uint8_t *record; /* NULL: listing */
+    enum kind kind;
+    const uint8_t *record; /* of assembly */
     uint32_t answer;
     size_t needed;
 };
@@ -40,22 +43,31 @@ static void *run(void *given)
     struct call *k = given;
     volatile uint8_t here = 0;
     memset(stack, PAINT, (size_t)((uint8_t *)&here - stack) - MARGIN);
-    if (k->record)
-        k->answer = combinator_assemble(k->c->src, k->c->dst, k->c->book, k->c->book_len, k->record, COMBINATOR_RECORD_SIZE, path, sizeof path);
-    else
+    switch (k->kind) {
+    case LISTING:
         k->answer = combinator_list(k->c->src, k->c->dst, k->c->book, k->c->book_len, list, sizeof list);
+        break;
+    case ROUTES:
+        k->answer = combinator_routes(k->c->src, k->c->dst, k->c->book, k->c->book_len, list, sizeof list);
+        break;
+    default:
+        k->answer = combinator_assemble(k->c->src, k->c->dst, k->c->book, k->c->book_len, k->record, COMBINATOR_RECORD_SIZE, path, sizeof path);
+    }
     k->needed = (size_t)((uint8_t *)&here - low_mark());
     return NULL;
 }
 
-static void call(struct call *k)
+static void call(struct call *k, enum kind kind)
 {
     pthread_attr_t attr;
     pthread_t thread;
+    k->kind = kind;
     if (pthread_attr_init(&attr) || pthread_attr_setstack(&attr, stack, STACK) || pthread_create(&thread, &attr, run, k) ||
         pthread_join(thread, NULL))
         fail("a thread on its own stack");
     pthread_attr_destroy(&attr);
+    if (k->needed > most[kind])
+        most[kind] = k->needed;
 }
 
 static void measure(const struct input *c)
@@ -64,18 +76,15 @@ static void measure(const struct input *c)
     size_t n, i, step;
     memset(&k, 0, sizeof k);
     k.c = c;
-    call(&k);
-    if (k.needed > most_list)
-        most_list = k.needed;
+    call(&k, ROUTES);
+    call(&k, LISTING);
     if (COMBINATOR_IS_REFUSAL(k.answer))
         return;
     n = k.answer;
     step = n / 16 + 1;
     for (i = 0; i < n; i += step) {
         k.record = list + COMBINATOR_RECORD_SIZE * i;
-        call(&k);
-        if (k.needed > most_assemble)
-            most_assemble = k.needed;
+        call(&k, ASSEMBLY);
     }
 }
 
@@ -101,6 +110,8 @@ int stack_mode(int args, char **arg)
     measure_book(build_slots(book, 0, 0));
     measure_book(build_slots(book, 0, 1));
     measure_book(build_slots(book, 1, 1));
+    measure_book(build_long(book, 0, 0));
+    measure_book(build_long(book, 0, 1));
     for (half = 1; half <= FULL_HALF; half++)
         measure_book(build_worst(book, half, COMBINATOR_MAX_ENTRIES, COMBINATOR_MAX_PEERS));
     for (i = 0; i < args; i++) {
@@ -111,6 +122,10 @@ int stack_mode(int args, char **arg)
             if (c.book)
                 measure(&c);
     }
-    printf("stack of one call: listing %zu bytes, assembly %zu bytes (below %d is not told apart)\n", most_list, most_assemble, MARGIN);
+    printf("stack of one call: listing %zu bytes, routes %zu bytes, assembly %zu bytes (below %d is not told apart)\n", most[LISTING], most[ROUTES],
+           most[ASSEMBLY], MARGIN);
+    for (i = 0; i < KINDS; i++)
+        if (most[i] > COMBINATOR_STACK_SIZE)
+            fail("more than %d bytes", COMBINATOR_STACK_SIZE);
     return 0;
 }

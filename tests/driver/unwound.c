@@ -218,7 +218,7 @@ static int meet_mode(char **arg)
     handle(SIGTRAP, on_stop);
     read_rows(arg[0]);
     read_code(arg[1]);
-    if (replay_mode(2, arg + 3))
+    if (replay_mode(3, arg + 3))
         return 1;
     f = fopen(arg[2], "w");
     for (i = 0; f && i < MOST_CODE; i++)
@@ -272,15 +272,25 @@ static uint8_t *short_memory(int which, size_t shown)
 
 static uint32_t answer;
 
+enum kind { LISTING, ROUTES, ASSEMBLY };
+
 /* Neither inlined nor left by a jump, so that its own return address stands on the stack. */
-__attribute__((noinline)) static int attempt(int assemble, const uint8_t *book, size_t book_len, const uint8_t *record, uint8_t *out, size_t out_len)
+__attribute__((noinline)) static int attempt(enum kind kind, const uint8_t *book, size_t book_len, const uint8_t *record, uint8_t *out, size_t out_len)
 {
+    const uint64_t src = UINT64_C(0x0001ff0000000131), dst = UINT64_C(0x0001ff0000000141);
     landmark = __builtin_return_address(0);
     if (sigsetjmp(back, 1))
         return 1;
-    answer = assemble ? combinator_assemble(UINT64_C(0x0001ff0000000131), UINT64_C(0x0001ff0000000141), book, book_len, record,
-                                            COMBINATOR_RECORD_SIZE, out, out_len)
-                      : combinator_list(UINT64_C(0x0001ff0000000131), UINT64_C(0x0001ff0000000141), book, book_len, out, out_len);
+    switch (kind) {
+    case LISTING:
+        answer = combinator_list(src, dst, book, book_len, out, out_len);
+        break;
+    case ROUTES:
+        answer = combinator_routes(src, dst, book, book_len, out, out_len);
+        break;
+    default:
+        answer = combinator_assemble(src, dst, book, book_len, record, COMBINATOR_RECORD_SIZE, out, out_len);
+    }
     return 0;
 }
 
@@ -294,24 +304,26 @@ static int fault_mode(char **arg)
     void *first[4];
     backtrace(first, 4); /* what it loads is loaded outside the handler */
     handle(SIGSEGV, on_fault);
-    if (attempt(0, book, length, book, list, sizeof list) || COMBINATOR_IS_REFUSAL(answer) || answer < 1)
+    if (attempt(LISTING, book, length, book, list, sizeof list) || COMBINATOR_IS_REFUSAL(answer) || answer < 1)
         fail("no list of %s", arg[0]);
     memcpy(record, list, sizeof record);
     for (i = 0; i < length; i++) {
         memory = short_memory(0, i);
         memcpy(memory, book, i);
-        attempt(0, memory, length, book, list, sizeof list);
-        attempt(1, memory, length, record, path, sizeof path);
+        attempt(LISTING, memory, length, book, list, sizeof list);
+        attempt(ROUTES, memory, length, book, list, sizeof list);
+        attempt(ASSEMBLY, memory, length, record, path, sizeof path);
     }
     for (i = 0; i < sizeof record; i++) {
         memory = short_memory(1, i);
         memcpy(memory, record, i);
-        attempt(1, book, length, memory, path, sizeof path);
+        attempt(ASSEMBLY, book, length, memory, path, sizeof path);
     }
     listed = faults;
     for (i = 0; i < sizeof path; i += 7) {
-        attempt(0, book, length, book, short_memory(2, i), sizeof path);
-        attempt(1, book, length, record, short_memory(2, i), sizeof path);
+        attempt(LISTING, book, length, book, short_memory(2, i), sizeof path);
+        attempt(ROUTES, book, length, book, short_memory(2, i), sizeof path);
+        attempt(ASSEMBLY, book, length, record, short_memory(2, i), sizeof path);
     }
     if (listed < length || faults == listed)
         fail("fewer faults than expected");
@@ -321,10 +333,10 @@ static int fault_mode(char **arg)
 
 int main(int args, char **arg)
 {
-    if (args == 7 && !strcmp(arg[1], "meet"))
+    if (args == 8 && !strcmp(arg[1], "meet"))
         return meet_mode(arg + 2);
     if (args == 3 && !strcmp(arg[1], "fault"))
         return fault_mode(arg + 2);
-    usage("unwound meet ROWS CODE MET ANSWERS REFUSALS | fault BOOK");
+    usage("unwound meet ROWS CODE MET ANSWERS REFUSALS ROUTES | fault BOOK");
     return 2;
 }

@@ -1,4 +1,4 @@
-"""The forms of answers.bin, refusals.bin and of what the program that replays them reads (README.md)."""
+"""The forms of answers.bin, refusals.bin, routes.bin and of what the program that replays them reads (README.md)."""
 import os
 import sys
 
@@ -7,13 +7,14 @@ sys.path[:0] = [os.path.join(HERE, "..", "..", "tools"), os.path.join(HERE, ".."
 from batch import FRONT, framed  # noqa: E402
 from booktext.layout import ENDS, RECORD_SIZE, Field, Record  # noqa: E402
 
-LABEL, ANSWERED, CALLED = range(3)      # tags of the items that the program reads
+LABEL, ANSWERED, CALLED, ASKED = range(4)      # tags of the items that the program reads
 LISTING, ASSEMBLY = range(2)            # the call of a case of refusals.bin
 
 COUNT = Record("COUNT", Field("solutions", 2))
 OUTCOME = Record("OUTCOME", Field("answer", 1), Field("length", 2))
 CALL = Record("CALL", Field("call", 1), Field("room", 4), Field("length", 2))
 REFUSAL = Record("REFUSAL", Field("number", 1))
+ROUTED = Record("ROUTED", Field("room", 4), Field("number", 1), Field("routes", 2))
 
 
 def given(src, dst, book):
@@ -29,6 +30,11 @@ def answered(case, solutions):
 def called(case, call, room, record, number):
     """A case of refusals.bin; the number is 0 where the call is not refused."""
     return framed(case) + CALL.pack(call, room, len(record)) + record + REFUSAL.pack(number)
+
+
+def routed(case, room, number, records):
+    """A case of routes.bin; the number is 0 and the records are the routes' where the call is not refused."""
+    return framed(case) + ROUTED.pack(room, number, len(records)) + b"".join(records)
 
 
 class Reader:
@@ -67,9 +73,17 @@ def called_rest(r):
     r.next(REFUSAL)
 
 
+def routed_rest(r):
+    r.take(RECORD_SIZE * r.next(ROUTED).routes)
+
+
 def answers():
     return list(Reader("answers.bin").cases(answered_rest))
 
 
 def refusals():
     return list(Reader("refusals.bin").cases(called_rest))
+
+
+def routes():
+    return list(Reader("routes.bin").cases(routed_rest))

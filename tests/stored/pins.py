@@ -118,7 +118,7 @@ FORMS = {
     "entry": entry, "peer": peer, "segment": lambda timestamp, ident, entries: (timestamp, ident, entries), "book": book,
     "edge": lambda *numbers: list(numbers), "solution": solution, "input": lambda b, src, dst: list(struct.pack(">QQ", src, dst)) + b,
     "case": lambda asked, expected: (asked, expected),
-    **{kind: question(kind) for kind in ("accept", "list", "print", "assemble", "least", "sketch", "hold", "room", "live")},
+    **{kind: question(kind) for kind in ("accept", "list", "route", "print", "assemble", "least", "sketch", "hold", "room", "live")},
 }
 DEFINITION = re.compile(r"^(?:unfoldable |abbrev )?(?:pub )?(\w+) : [^\n]*\n\1((?: \w+)*) =\n?(.*?)(?=\n\n|\Z)", re.S | re.M)
 
@@ -150,7 +150,7 @@ def definitions(name, names):
 def tables():
     """(file, table, cases): those of SHA-256 are `hashed`."""
     form = definitions("CasesForm", dict(FORMS))
-    for name in ("Cases", "PinnedCases", "AddedCases"):
+    for name in ("Cases", "PinnedCases", "RouteCases", "AddedCases"):
         found = definitions(name, dict(form))
         for table in ("table", "hashed"):
             if table in found:
@@ -161,17 +161,17 @@ def asked(words):
     """Source, destination and book of a question; several of some, none of others."""
     if words[0] == "print" and len(words[1]) >= 16:
         return [bytes(words[1])]
-    if words[0] in ("list", "assemble", "least", "sketch", "hold"):
+    if words[0] in ("list", "route", "assemble", "least", "sketch", "hold"):
         return [struct.pack(">QQ", words[2], words[3]) + bytes(b) for b in (words[1] if words[0] in ("least", "sketch") else [words[1]])]
     return []
 
 
 def inputs():
-    """Each input once on which the Rust answers a question of the tables: accepted books, and ends that differ."""
+    """Each input once on which the Rust answers a question of the tables: accepted books, and ends that differ. It has no routes."""
     found = {}
     for _, _, cases in tables():
         for words, _ in cases:
-            for given in asked(words):
+            for given in asked(words) if words[0] != "route" else []:
                 if not model.verdict(given[16:]) and given[:8] != given[8:16]:
                     found[given] = None
     return list(found)
@@ -198,6 +198,15 @@ def listed(solutions, room):
     if len(solutions) > min(4096, room // 16):
         return [FULL] + [0] * room
     return [len(solutions)] + joined(r for r, _, _ in solutions) + [0] * (room - 16 * len(solutions))
+
+
+def routed(solutions, room):
+    """docs/SPECIFICATION.md 14: of each list of interfaces the earliest with the greatest expiry, in order of first appearance."""
+    if len(solutions) > min(4096, room // 16):
+        return [FULL] + [0] * room
+    paths = [(tuple(parts(path)[2]), least(path)[1], r) for r, answer, path in solutions if answer == 0]
+    held = [max((p for p in paths if p[0] == of), key=lambda p: p[1])[2] for of in dict.fromkeys(of for of, _, _ in paths)]
+    return [len(held)] + joined(held) + [0] * (room - 16 * len(held))
 
 
 def assembled(solutions, record, room):
@@ -265,6 +274,8 @@ def by(solutions, words):
     """What a question's answer is, from the solutions in order."""
     if words[0] == "list":
         return listed(solutions, words[4])
+    if words[0] == "route":
+        return routed(solutions, words[4])
     if words[0] == "print":
         return list(printed(solutions).encode())
     if words[0] == "assemble":

@@ -1,6 +1,7 @@
 """What a book is answered with: by the library where it is built, by the program `list` where not.
 
-The two give the same printed list. Only the library gives the record and the whole path of a solution, which booktext.why works on.
+The two give the same printed list, and so the same routes. Only the library gives the record and the whole path of a solution, which booktext.why
+works on.
 """
 import os
 import sys
@@ -8,7 +9,7 @@ from dataclasses import dataclass, field
 from pathlib import Path
 from typing import List, Optional
 
-from . import Trouble, printed
+from . import Trouble, printed, routes
 
 TOOLS = Path(__file__).resolve().parents[1]
 PROGRAMS = TOOLS.parent / "target" / "bin" / "list", TOOLS / "list"
@@ -79,6 +80,18 @@ def by_library(source, destination, book):
         return Listing(source, destination, printed.refused_line(refusal.number), refusal.number)
     solutions = [solution(number, record, combinator.assemble(source, destination, book, record)) for number, record in enumerate(records, 1)]
     return Listing(source, destination, printed.written(solutions), None, solutions)
+
+
+def routes_of(listing, book):
+    """The routes of a list, and what is wrong where the library that gave the list answers others, a line each."""
+    found = routes.routes(listing.solutions)
+    if listing.without is not None or listing.refused is not None:
+        return found, []
+    try:
+        answered = list(combinator.routes(listing.source, listing.destination, book))
+    except combinator.Refusal as refusal:
+        return found, [f"routes are {refusal}, and the list is not"]
+    return found, routes.differing(found, answered, listing.solutions)
 
 
 def solution(number, record, answer):

@@ -212,7 +212,7 @@ def path_rows(picture):
 def summary(picture):
     paths = [s.number for s in picture.solutions if s.outcome == "path"]
     others = [f"{s.number} {s.outcome}" for s in picture.solutions if s.outcome != "path"]
-    words = f"{counted(len(picture.solutions), 'solution')}, {counted(len(paths), 'path')}"
+    words = counted(len(paths), "route") if picture.routes else f"{counted(len(picture.solutions), 'solution')}, {counted(len(paths), 'path')}"
     if len(picture.drawn) < len(paths):
         words += f", {len(picture.drawn)} drawn"
     if others:

@@ -12,18 +12,38 @@ from .why import has_run_out
 
 def written(listing, segments, found, now):
     """`segments` are those of the book, and `found` the reasons of each solution, or None where the program was asked."""
+    return document(listing, now, {"solutions": solutions(listing.solutions, segments, found, now) if listing.refused is None else None})
+
+
+def routes_written(listing, segments, routes, found, errors, now):
+    """The same of routes; `errors` are about all of them."""
+    if listing.refused is not None:
+        return document(listing, now, dict.fromkeys(("solution_count", "path_count", "routes", "errors")))
+    made = [{**s, **copies(r, segments)} for r, s in zip(routes, solutions([r.solution for r in routes], segments, found, now))]
+    paths = sum(s.outcome == "path" for s in listing.solutions)
+    return document(listing, now, {"solution_count": len(listing.solutions), "path_count": paths, "routes": made, "errors": errors})
+
+
+def document(listing, now, more):
     refused = listing.refused
-    solutions = None
-    if refused is None:
-        solutions = [solution(s, segments, found[k] if found else None, now) for k, s in enumerate(listing.solutions)]
     return json.dumps({"source": isd_as.written(listing.source), "destination": isd_as.written(listing.destination), "now": now,
-                       "refusal": None if refused is None else {"number": refused, "word": WORDS.get(refused)}, "solutions": solutions}, indent=1) + "\n"
+                       "refusal": None if refused is None else {"number": refused, "word": WORDS.get(refused)}, **more}, indent=1) + "\n"
+
+
+def solutions(listed, segments, found, now):
+    return [solution(s, segments, found[k] if found else None, now) for k, s in enumerate(listed)]
+
+
+def copies(route, segments):
+    """What a route has beside its solution: that one's number in the list, the first's, and those that are dropped."""
+    return {"solution": route.held.number, "first": route.first.number,
+            "dropped": [{"solution": s.number, "edges": edges(s, segments), "expiry": s.expiry, "longer": route.longer(s)} for s in route.dropped]}
 
 
 def solution(s, segments, reasons, now):
     is_path = s.outcome == "path"
     return {"number": s.number, "cost": s.cost, "segment_count": s.segments, "outcome": s.outcome,
-            "edges": [edge(e, segments) for e in s.record.edges] if s.record else None,
+            "edges": edges(s, segments),
             "mtu": s.mtu, "expiry": s.expiry, "run_out": has_run_out(s, now) if is_path else None,
             "first_as": isd_as.written(s.interfaces[0][0]) if is_path else None, "last_as": isd_as.written(s.interfaces[-1][0]) if is_path else None,
             "hop_count": s.hops, "infos": infos(s) if is_path else None, "hops": [hop(h) for h in s.path.hops] if s.path else None,
@@ -32,6 +52,10 @@ def solution(s, segments, reasons, now):
 
 def segment_id(ident):
     return value(HEAD.of.id, ident)
+
+
+def edges(s, segments):
+    return [edge(e, segments) for e in s.record.edges] if s.record else None
 
 
 def edge(e, segments):

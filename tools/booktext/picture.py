@@ -24,12 +24,15 @@ class Link:
 
 
 class Picture:
-    """What is to be drawn; with used, only the ASes and links that the drawn paths pass, and the segments with such links."""
+    """What is to be drawn; with used, only the ASes and links that the drawn paths pass, and the segments with such links.
 
-    def __init__(self, segments, source, destination, solutions, names, wanted=None, title=None, used=False):
+    With routes, the solutions are one to a route, by its number."""
+
+    def __init__(self, segments, source, destination, solutions, names, wanted=None, title=None, used=False, routes=False):
         self.segments, self.source, self.destination, self.solutions, self.names = segments, source, destination, solutions, names
         self.title = title or f"{self.name(source)} to {self.name(destination)}"
-        self.drawn = chosen(solutions, wanted)
+        self.routes = routes
+        self.drawn = chosen(solutions, wanted, "route" if routes else "solution")
         self.colours = {s.number: COLOURS[k] for k, s in enumerate(self.drawn)}
         self.links = self.found_links()
         self.known = ends.known(segments)
@@ -102,7 +105,7 @@ class Picture:
         return level
 
 
-def chosen(solutions, wanted):
+def chosen(solutions, wanted, word):
     """The solutions to draw: those wanted, or the first with a path."""
     with_path = {s.number: s for s in solutions if s.outcome == "path"}
     if wanted is None:
@@ -111,7 +114,7 @@ def chosen(solutions, wanted):
         raise Trouble(f"{len(wanted)} paths are too many to tell apart: at most {len(COLOURS)} are drawn at once")
     for number in sorted(wanted):
         if number not in with_path:
-            outcome = f"solution {number} is {solutions[number - 1].outcome} and has no path" if number <= len(solutions) else \
-                f"there is no solution {number}: the list has {len(solutions)}"
+            outcome = f"{word} {number} is {solutions[number - 1].outcome} and has no path" if number <= len(solutions) else \
+                f"there is no {word} {number}: the list has {len(solutions)}"
             raise Trouble(outcome)
     return [with_path[number] for number in sorted(wanted)]

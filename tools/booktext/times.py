@@ -56,6 +56,16 @@ def in_range(words, seconds):
     return seconds
 
 
+def duration(seconds):
+    """1d 6h 12m 5s, without what is 0 of it."""
+    found = []
+    for unit, size in (("d", 86400), ("h", 3600), ("m", 60), ("s", 1)):
+        if seconds >= size:
+            found.append(f"{seconds // size}{unit}")
+            seconds %= size
+    return " ".join(found) or "0s"
+
+
 def now():
     return int(time.time())
 

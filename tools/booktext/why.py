@@ -4,7 +4,7 @@ All of it is worked out of the solutions' records and the segments of the book, 
 the library answered, the reasons say so as an error.
 """
 import hashlib
-from dataclasses import dataclass, field
+from dataclasses import dataclass, field, replace
 from typing import Any, Dict, List, NamedTuple, Optional, Tuple
 
 from . import isd_as, printed, times
@@ -93,6 +93,7 @@ class After(NamedTuple):
     number: int             # of the one before
     key: Key
     before: Key
+    firsts: Optional[Tuple[int, int]] = None    # of two routes: the numbers of the solutions whose places they have
 
 
 class Order:
@@ -209,6 +210,18 @@ def reasons(segments, solutions, now):
     return found
 
 
+def of_routes(segments, routes, solutions, found):
+    """The reasons of routes, of those of all solutions. A route stands where the first of its solutions does."""
+    order, known, made = Order(segments), {s.number: r for s, r in zip(solutions, found)}, []
+    for k, route in enumerate(routes):
+        after = None
+        if k and all(known[r.first.number].hops for r in routes[k - 1:k + 1]):
+            after = order.after(route.first, routes[k - 1].first)
+            after = after and after._replace(number=routes[k - 1].number, firsts=(route.first.number, routes[k - 1].first.number))
+        made.append(replace(known[route.held.number], after=after))
+    return made
+
+
 # ---- in words
 
 ORDINALS = "first", "second", "third"
@@ -279,21 +292,30 @@ class Words:
         if name == "fingerprint":
             one, other = shortened(one, other)
         rule = f" ({RULES[name]})" if name in RULES else ""
-        return f"stands after {after.number} by {KEYS[name]}{where}: {one} against {other}{rule}"
+        firsts = ", as solution {} after solution {},".format(*after.firsts) if after.firsts else ""
+        return f"stands after {after.number}{firsts} by {KEYS[name]}{where}: {one} against {other}{rule}"
 
-    def lines(self, found, outcome):
+    def lines(self, found, outcome, more=()):
         lines = [self.use(edge, hops) for edge, hops in zip(found.edges, found.hops)]
         if outcome == "path" and found.hops:
             lines += [self.mtu(found.mtu), self.expiry(found.expiry), self.run_out(found.run_out)]
         lines += [f"no path: {self.name(isd_asn)} is shown at {len(ids)} interfaces ({', '.join(map(str, ids))}), more than twice"
                   for isd_asn, ids in found.loops if outcome == "loop"]
         lines += ["no path: there are no interfaces"] if outcome == "bare" else []
-        lines += [self.after(found.after)] if found.after else []
-        return "".join(f"  {line}\n" for line in lines + [f"error: {wrong}" for wrong in found.errors])
+        lines += [*more, *([self.after(found.after)] if found.after else [])]
+        return indented(lines + [f"error: {wrong}" for wrong in found.errors])
 
 
-def told(solutions, found, names, now):
-    """The printed list with names to the right of its lines, and the reasons below each solution."""
-    words = Words(names, now)
-    return printed.first_line(solutions) + "".join(printed.with_names(printed.solution_lines(s), names) + words.lines(r, s.outcome)
-                                                   for s, r in zip(solutions, found))
+def indented(lines):
+    return "".join(f"  {line}\n" for line in lines)
+
+
+def told(solutions, found, names, now, more=None):
+    """The lines of each solution with names to their right, its reasons below, and what more there is to say of each.
+
+    Where there are no reasons, `found` is None."""
+    words, told = Words(names, now), ""
+    for k, s in enumerate(solutions):
+        further = more[k] if more else ()
+        told += printed.with_names(printed.solution_lines(s), names) + (words.lines(found[k], s.outcome, further) if found else indented(further))
+    return told

@@ -3,8 +3,8 @@
 use alloc::{boxed::Box, vec, vec::Vec};
 
 use crate::{
-    assemble, list, AsEntry, Assembled, BookWriter, IsdAsn, Path, PathSegment, PeerEntry, Refusal,
-    LIST_SIZE, MAX_BOOK,
+    assemble, list, routes, AsEntry, Assembled, BookWriter, IsdAsn, Path, PathSegment, PeerEntry,
+    Refusal, Solutions, LIST_SIZE, MAX_BOOK,
 };
 
 /// A segment that owns its entries.
@@ -59,9 +59,10 @@ impl core::fmt::Debug for OwnedPath {
 /// Combines segments into every path from `src` to `dst`, the best first.
 ///
 /// It has the shape of scion-sdk's `combine`. Solutions without a path, Loop and Bare, are left out, and
-/// where `src` equals `dst` there are no paths. But paths over the same route are all answered, and what
-/// is above a limit is refused: segments, or more than [`MAX_SOLUTIONS`](crate::MAX_SOLUTIONS) solutions.
-/// The table of README.md, "What differs", has all of it.
+/// where `src` equals `dst` there are no paths. But paths over the same route are all answered
+/// ([`combine_routes`] answers one of them), and what is above a limit is refused: segments, or more
+/// than [`MAX_SOLUTIONS`](crate::MAX_SOLUTIONS) solutions. The table of README.md, "What differs", has
+/// all of it.
 ///
 /// To leave out single segments above a limit, write the book with [`BookWriter::cores`] and
 /// [`BookWriter::non_cores`], and ask [`paths`].
@@ -93,22 +94,64 @@ pub fn combine<S: PathSegment>(
     non_cores: impl IntoIterator<Item = S>,
 ) -> Result<Vec<OwnedPath>, Refusal> {
     let mut room = vec![0; MAX_BOOK];
-    let mut book = BookWriter::new(&mut room)?;
+    paths(src, dst, written(cores, non_cores, &mut room)?)
+}
+
+/// Combines segments into one path for each route from `src` to `dst`: of several over the same
+/// interfaces, the first of those that live longest.
+///
+/// The paths stand in the order in which [`combine`] first answers each route, and it refuses where
+/// [`combine`] does. A carrier that reissues a segment so adds no path, and renews those that it has.
+pub fn combine_routes<S: PathSegment>(
+    src: IsdAsn,
+    dst: IsdAsn,
+    cores: impl IntoIterator<Item = S>,
+    non_cores: impl IntoIterator<Item = S>,
+) -> Result<Vec<OwnedPath>, Refusal> {
+    let mut room = vec![0; MAX_BOOK];
+    route_paths(src, dst, written(cores, non_cores, &mut room)?)
+}
+
+/// The book of segments.
+fn written<S: PathSegment>(
+    cores: impl IntoIterator<Item = S>,
+    non_cores: impl IntoIterator<Item = S>,
+    room: &mut [u8],
+) -> Result<&[u8], Refusal> {
+    let mut book = BookWriter::new(room)?;
     for s in cores {
         book.core(s.timestamp(), s.id(), s.entries())?;
     }
     for s in non_cores {
         book.non_core(s.timestamp(), s.id(), s.entries())?;
     }
-    paths(src, dst, book.finish())
+    Ok(book.finish())
 }
 
 /// Every path from `src` to `dst` of a book, the best first, as [`combine`] answers them.
 pub fn paths(src: IsdAsn, dst: IsdAsn, book: &[u8]) -> Result<Vec<OwnedPath>, Refusal> {
     let mut slots = vec![0; LIST_SIZE];
+    let solutions = list(src, dst, book, &mut slots)?;
+    assembled(src, dst, book, solutions)
+}
+
+/// One path for each route from `src` to `dst` of a book, as [`combine_routes`] answers them.
+pub fn route_paths(src: IsdAsn, dst: IsdAsn, book: &[u8]) -> Result<Vec<OwnedPath>, Refusal> {
+    let mut slots = vec![0; LIST_SIZE];
+    let solutions = routes(src, dst, book, &mut slots)?;
+    assembled(src, dst, book, solutions)
+}
+
+/// The paths of solutions that have one.
+fn assembled(
+    src: IsdAsn,
+    dst: IsdAsn,
+    book: &[u8],
+    solutions: Solutions<'_>,
+) -> Result<Vec<OwnedPath>, Refusal> {
     let mut room = [0; Path::SIZE];
     let mut paths = Vec::new();
-    for solution in list(src, dst, book, &mut slots)? {
+    for solution in solutions {
         if let Assembled::Path(path) = assemble(src, dst, book, solution, &mut room)? {
             paths.push(path.into());
         }

@@ -1,10 +1,12 @@
 //! SCION path combination: the proved C library of `include/combinator.h`, from Rust.
 //!
 //! [`list`] lists every way to join the segments of a book into a path from a source to a destination,
-//! the best first. [`assemble`] makes the path of one of them. Both write to a lent buffer, and what
-//! they answer borrows it; nothing is allocated and nothing is kept between calls.
+//! the best first. [`routes`] lists each route once, by the solution that lives longest. [`assemble`]
+//! makes the path of one of them. All write to a lent buffer, and what they answer borrows it; nothing
+//! is allocated and nothing is kept between calls.
 //!
-//! With the feature `alloc`, `combine` takes segments and answers paths that own their bytes.
+//! With the feature `alloc`, `combine` and `combine_routes` take segments and answer paths that own
+//! their bytes.
 //!
 //! README.md shows the switch from scion-sdk's `combine`.
 #![no_std]
@@ -25,7 +27,7 @@ mod solution;
 
 pub use book::{AsEntry, BookWriter, PathSegment, PeerEntry};
 #[cfg(feature = "alloc")]
-pub use combine::{combine, paths, OwnedPath, OwnedSegment};
+pub use combine::{combine, combine_routes, paths, route_paths, OwnedPath, OwnedSegment};
 pub use isd_asn::{IsdAsn, ParseError};
 pub use layout::{
     LIST_SIZE, MAX_BOOK, MAX_EDGES, MAX_ENTRIES, MAX_HOPS, MAX_INTERFACES, MAX_PEERS, MAX_SEGMENTS,
@@ -38,6 +40,15 @@ pub use solution::{Solution, SolutionEdge, SolutionIter, Solutions};
 mod ffi {
     extern "C" {
         pub fn combinator_list(
+            src: u64,
+            dst: u64,
+            book: *const u8,
+            book_len: usize,
+            out: *mut u8,
+            out_len: usize,
+        ) -> u32;
+
+        pub fn combinator_routes(
             src: u64,
             dst: u64,
             book: *const u8,
@@ -83,6 +94,39 @@ pub fn list<'a>(
             out.len(),
         )
     };
+    listed(answer, out)
+}
+
+/// Lists the routes from `src` to `dst` of a book, each once.
+///
+/// Two paths are the same route where their interfaces are equal: the same ASes and ids, in the same
+/// order. Of the solutions of a route, the first of those whose paths live longest is answered, at the
+/// place of the first of all. So routes stand in the order in which they first appear in [`list`], which
+/// need not be the order of the solutions answered. Each of these has a path: Loop and Bare are left out.
+///
+/// It refuses where [`list`] does, with the same refusal: `out` has a slot for every solution, also
+/// where the routes are fewer.
+pub fn routes<'a>(
+    src: IsdAsn,
+    dst: IsdAsn,
+    book: &[u8],
+    out: &'a mut [u8],
+) -> Result<Solutions<'a>, Refusal> {
+    // SAFETY: as in `list`.
+    let answer = unsafe {
+        ffi::combinator_routes(
+            src.0,
+            dst.0,
+            book.as_ptr(),
+            book.len(),
+            out.as_mut_ptr(),
+            out.len(),
+        )
+    };
+    listed(answer, out)
+}
+
+fn listed(answer: u32, out: &[u8]) -> Result<Solutions<'_>, Refusal> {
     match Refusal::of_answer(answer) {
         Some(refusal) => Err(refusal),
         None => Ok(Solutions::new(out, answer as usize)),

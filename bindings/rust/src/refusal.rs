@@ -26,7 +26,7 @@ pub enum Refusal {
     Peers = 6,
     /// Body lengths do not sum to the total, or a body is not filled exactly.
     Misfit = 7,
-    /// Listing: more solutions than slots.
+    /// Listing, also of routes: more solutions than slots.
     Full = 8,
     /// Assembly: the output is under [`Path::SIZE`](crate::Path::SIZE) bytes.
     Small = 9,

@@ -8,7 +8,8 @@ use crate::{
     read::{array, records, u16_at, Records},
 };
 
-/// The solutions that [`list`](crate::list) found, the best first.
+/// The solutions that [`list`](crate::list) found, the best first, or one for each route, as
+/// [`routes`](crate::routes) did.
 #[derive(Clone, Copy, PartialEq, Eq)]
 pub struct Solutions<'a> {
     records: &'a [u8],

@@ -1,4 +1,4 @@
--- The tables of computed cases end to end: where a case asks for a list or a path, what an exported function returns and leaves, by its
+-- The tables of computed cases end to end: where a case asks for a list, for routes or for a path, what an exported function returns and leaves, by its
 -- contract, is what stands beside the question. The first table is of docs/SPECIFICATION.md 13.1; its cases that ask for the printed text are those
 -- of crate `printed`, proofs/Cases.
 -- Assumes nothing.
@@ -6,12 +6,13 @@ use Prim.Native.Nat.{ℕ}
 use mathlib.Core.Path.{_≡_, ap, _∙_}
 use mathlib.Core.List.{List, _∷_, _++_, List·Memᴰ as Mem}
 use Rattle.sha256.specs.Message.{sha256}
-use Rattle.spec.proofs.CasesForm.{list, assemble, case, answer}
+use Rattle.spec.proofs.CasesForm.{list, route, assemble, case, answer}
 use Rattle.spec.proofs.Cases.{table}
 use Rattle.spec.proofs.AddedCases.{table as added, hashed}
 use Rattle.spec.proofs.PinnedCases.{table as pinned}
+use Rattle.spec.proofs.RouteCases.{table as routes}
 use Rattle.spec.proofs.CasesRead.{p-answer, added-answer, hashed-answer}
-use Rattle.combinator.specs.Exports.{Returned, numberedList, numberedPath, listReturned, pathReturned}
+use Rattle.combinator.specs.Exports.{Returned, numberedList, numberedPath, listReturned, routesReturned, pathReturned}
 
 -- the number, then the output's bytes
 abbrev bytes-of : Returned → List ℕ
@@ -27,8 +28,18 @@ module _ (b : List ℕ) (src dst bytes : ℕ) (expected : List ℕ) (r : ℕ) (o
   unfolding answer listReturned numberedList
   hashed-list-case m = ap bytes-of q ∙ hashed-answer (case (list b src dst bytes) expected) m
 
--- `combinator_assemble`, which no digest concerns: a case of the second or the third table
+-- `combinator_routes`: the same
+module _ (b : List ℕ) (src dst bytes : ℕ) (expected : List ℕ) (r : ℕ) (out : List ℕ) (q : _≡_ {A = Returned} (r, out) (routesReturned b src dst bytes)) where
+  pub routes-case : Mem (case (route b src dst bytes) expected) table → r ∷ out ≡ expected
+  unfolding answer routesReturned numberedList
+  routes-case m = ap bytes-of q ∙ p-answer sha256 (case (route b src dst bytes) expected) m
+
+  pub hashed-routes-case : Mem (case (route b src dst bytes) expected) hashed → r ∷ out ≡ expected
+  unfolding answer routesReturned numberedList
+  hashed-routes-case m = ap bytes-of q ∙ hashed-answer (case (route b src dst bytes) expected) m
+
+-- `combinator_assemble`, which no digest concerns: a case of the other tables
 pub assemble-case : (b : List ℕ) (src dst : ℕ) (given : List ℕ) (bytes : ℕ) (expected : List ℕ) (r : ℕ) (out : List ℕ)
-    → _≡_ {A = Returned} (r, out) (pathReturned b src dst given bytes) → Mem (case (assemble b src dst given bytes) expected) (added ++ pinned) → r ∷ out ≡ expected
+    → _≡_ {A = Returned} (r, out) (pathReturned b src dst given bytes) → Mem (case (assemble b src dst given bytes) expected) (added ++ pinned ++ routes) → r ∷ out ≡ expected
 unfolding answer pathReturned numberedPath
 assemble-case b src dst given bytes expected r out q m = ap bytes-of q ∙ added-answer (case (assemble b src dst given bytes) expected) m

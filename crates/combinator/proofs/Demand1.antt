@@ -15,10 +15,11 @@ use Rattle.spec.specs.declared.PathAnswer.the-variants.{Path, Loop, Bare, Refus
 use Rattle.spec.specs.Limits.{maxSlots}
 use Rattle.spec.specs.Octets.{Bytes}
 use Rattle.spec.specs.Answers.{Listed, Assembled, listNumber, pathNumber, listing, assembly}
-use Rattle.spec.proofs.LengthLaws.{demand-1 as demand-1-of}
-use Rattle.combinator.specs.Exports.{isdAsn, numberedList, numberedPath, listReturned, pathReturned}
+use Rattle.spec.specs.Routes.{routing}
+use Rattle.spec.proofs.Demand1.{demand-1 as demand-1-of}
+use Rattle.combinator.specs.Exports.{isdAsn, numberedList, numberedPath, listReturned, routesReturned, pathReturned}
 use Rattle.combinator.specs.Demand1.{IsRefusal, Demand1}
-use Rattle.combinator.proofs.Returning.{count-most}
+use Rattle.combinator.proofs.Returning.{count-most, routes-most}
 
 -- an answer that is no refusal has a low number; one that is, its own
 list-cases : (bytes : ℕ) (l : Listed) → ((n : ℕ) → l .0 ≡ Count n → n ≤ maxSlots) → ((r : Refusal) → l .0 ≡ RefusedList r → l .1 ≡ replicate bytes 0)
@@ -40,12 +41,14 @@ path-cases bytes p zeros = go (p .0) refl
     go (RefusedPath r) q = inr (r, ap₂ (λ n o. (n, o)) (ap pathNumber q) (zeros (λ e. omega (arith, ap pathNumber q, ap pathNumber e))))
 
 pub demand-1 : (b : List ℕ) → Bytes b → (src dst : ℕ) (given : List ℕ) (bytes : ℕ) → Demand1 b src dst given bytes
-unfolding listReturned pathReturned numberedList numberedPath
+unfolding listReturned routesReturned pathReturned numberedList numberedPath
 demand-1 b bs src dst given bytes =
     let d = demand-1-of sha256 b bs (isdAsn src) (isdAsn dst) given bytes in
     record {
       list-answer = list-cases bytes (listing sha256 b (isdAsn src) (isdAsn dst) bytes) (count-most b src dst bytes _ _ refl) (d .list-refused);
       list-length = d .list-length;
+      routes-answer = list-cases bytes (routing sha256 b (isdAsn src) (isdAsn dst) bytes) (routes-most b src dst bytes _ _ refl) (d .routes-refused);
+      routes-length = d .routes-length;
       path-answer = path-cases bytes (assembly b (isdAsn src) (isdAsn dst) given bytes) (d .path-none);
       path-length = d .path-length;
       path-none = λ h. d .path-none (λ q. h (ap pathNumber q));

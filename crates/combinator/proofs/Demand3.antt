@@ -15,7 +15,7 @@ use Rattle.spec.proofs.AnswerLaws.{demand-3 as demand-3-of}
 use Rattle.combinator.specs.Exports.{isdAsn, numberedList, numberedPath, listReturned, pathReturned}
 use Rattle.combinator.specs.Demand3.{Demand3}
 
-zero-path : (a : PathAnswer) → pathNumber a ≡ 0 → a ≡ Path
+pub zero-path : (a : PathAnswer) → pathNumber a ≡ 0 → a ≡ Path
 zero-path Path q = refl
 zero-path Loop q = absurd (omega arith)
 zero-path Bare q = absurd (omega arith)

@@ -5,7 +5,7 @@ use native.Mathlib.Omega.{arith}
 use mathlib.Core.Path.{_≡_, refl, sym, ap, _∙_}
 use mathlib.Core.Bool.{Bool, true, false}
 use mathlib.Core.List.{List, flatMap}
-use lib.ListN.{length}
+use lib.ListN.{length, replicate}
 use lib.Dec.{ltb}
 use borrow.Author.Tests.{ltb-false}
 use Rattle.spec.specs.declared.Edge.{Edge}
@@ -22,9 +22,11 @@ use Rattle.spec.specs.Book.{verdict}
 use Rattle.spec.specs.Order.{solutions}
 use Rattle.spec.specs.Records.{solutionOctets, slots}
 use Rattle.spec.specs.Answers.{Listed, Assembled, refusals, refusalNumber, listNumber, pathNumber, refusedList, listingOf, listingOn, listing, assembly}
+use Rattle.spec.specs.Routes.{routes, routingOf, routingOn, routing}
+use Rattle.spec.proofs.RouteLaws.{routes-few}
 use Rattle.sha256.specs.Message.{sha256}
 use Rattle.graph.proofs.ListLaws.{slots-most}
-use Rattle.combinator.specs.Exports.{isdAsn, Returned, numberedList, numberedPath, listReturned, pathReturned}
+use Rattle.combinator.specs.Exports.{isdAsn, Returned, numberedList, numberedPath, listReturned, routesReturned, pathReturned}
 
 -- ---- a count
 
@@ -56,6 +58,37 @@ module _ (b : List ℕ) (src dst bytes : ℕ) (a : ListAnswer) (out : List ℕ) 
   pub list-refusal : (r : Refusal) (n : ℕ) → a ≡ RefusedList r → n ≡ refusalNumber r → _≡_ {A = Returned} (refusals + n, out) (listReturned b src dst bytes)
   unfolding listReturned numberedList
   list-refusal r n q k = ap (λ m. (refusals + m, out)) k ∙ ap (λ x. (listNumber x, out)) (sym q) ∙ ap numberedList e
+
+-- ---- the routes'
+
+module _ (b : List ℕ) (src dst bytes : ℕ) (a : ListAnswer) (out : List ℕ) (e : _≡_ {A = Listed} (a, out) (routing sha256 b (isdAsn src) (isdAsn dst) bytes)) where
+  pub routes-most : (n : ℕ) → a ≡ Count n → n ≤ maxSlots
+  unfolding routing routingOf refusedList
+  routes-most n q = on (verdict b) (sym (ap (λ (x : Listed). x .0) e) ∙ q)
+    where
+      found : List (List Edge)
+      found = solutions sha256 b (isdAsn src) (isdAsn dst)
+
+      routed-by : Bool → Listed
+      routed-by t = if t then (RefusedList Full, replicate bytes 0) else (Count (length (routes b found)), padded bytes (flatMap solutionOctets (routes b found)))
+
+      of : (t : Bool) → ltb (slots bytes) (length found) ≡ t → routed-by t .0 ≡ Count n → n ≤ maxSlots
+      of true l p = let z : _≡_ {A = ℕ} 0 1 = cc in absurd (omega arith)
+      of false l p =
+          let k : length (routes b found) ≡ n = cc in
+          omega (arith, ltb-false (slots bytes) (length found) l, slots-most bytes, routes-few b found)
+
+      on : (v : Verdict) → routingOn v bytes b found .0 ≡ Count n → n ≤ maxSlots
+      on Accepted p = of (ltb (slots bytes) (length found)) refl p
+      on (RefusedBook r) p = let z : _≡_ {A = ℕ} 0 1 = cc in absurd (omega arith)
+
+  pub routes-count : (n : ℕ) → a ≡ Count n → _≡_ {A = Returned} (n, out) (routesReturned b src dst bytes)
+  unfolding routesReturned numberedList
+  routes-count n q = ap (λ x. (listNumber x, out)) (sym q) ∙ ap numberedList e
+
+  pub routes-refusal : (r : Refusal) (n : ℕ) → a ≡ RefusedList r → n ≡ refusalNumber r → _≡_ {A = Returned} (refusals + n, out) (routesReturned b src dst bytes)
+  unfolding routesReturned numberedList
+  routes-refusal r n q k = ap (λ m. (refusals + m, out)) k ∙ ap (λ x. (listNumber x, out)) (sym q) ∙ ap numberedList e
 
 -- ---- assembly's
 

@@ -9,7 +9,7 @@ use lib.ListN.{length, replicate}
 use Rattle.spec.specs.declared.Refusal.{Refusal}
 use Rattle.spec.specs.Limits.{maxSlots}
 use Rattle.spec.specs.Answers.{refusals, refusalNumber}
-use Rattle.combinator.specs.Exports.{Returned, listReturned, pathReturned}
+use Rattle.combinator.specs.Exports.{Returned, listReturned, routesReturned, pathReturned}
 
 -- a refusal: past `refusals` its number, and every byte of the output 0
 abbrev pub IsRefusal : ℕ → Returned → Type 0
@@ -20,6 +20,9 @@ pub record Demand1 (b : List ℕ) (src dst : ℕ) (given : List ℕ) (bytes : �
   pub list-answer : (listReturned b src dst bytes .0 ≤ maxSlots) ⊎ IsRefusal bytes (listReturned b src dst bytes)
   -- its output keeps its length
   pub list-length : length (listReturned b src dst bytes .1) ≡ bytes
+  -- so does `combinator_routes`
+  pub routes-answer : (routesReturned b src dst bytes .0 ≤ maxSlots) ⊎ IsRefusal bytes (routesReturned b src dst bytes)
+  pub routes-length : length (routesReturned b src dst bytes .1) ≡ bytes
   -- `combinator_assemble` returns 0 for a path, 1 for Loop, 2 for Bare, or a refusal
   pub path-answer : (pathReturned b src dst given bytes .0 ≤ 2) ⊎ IsRefusal bytes (pathReturned b src dst given bytes)
   -- its output keeps its length

@@ -1,4 +1,5 @@
--- What the exported functions return, and the bytes that the output then holds: listing and assembly in the numbers of docs/SPECIFICATION.md 9.8.
+-- What the exported functions return, and the bytes that the output then holds: listing, routes and assembly in the numbers of
+-- docs/SPECIFICATION.md 9.8.
 -- ASes come as numbers.
 -- Assumes nothing.
 use Prim.Native.Nat.{ℕ}
@@ -6,6 +7,7 @@ use mathlib.Core.List.{List}
 use Rattle.sha256.specs.Message.{sha256}
 use Rattle.spec.specs.declared.IsdAsn.{IsdAsn}
 use Rattle.spec.specs.Answers.{Listed, Assembled, listNumber, pathNumber, listing, assembly}
+use Rattle.spec.specs.Routes.{routing}
 
 abbrev pub isdAsn : ℕ → IsdAsn
 isdAsn n = record { 0 = n }
@@ -23,6 +25,10 @@ numberedPath p = (pathNumber (p .0), p .1)
 -- of `combinator_list`; `bytes` is the output's length
 unfoldable pub listReturned : List ℕ → ℕ → ℕ → ℕ → Returned
 listReturned book src dst bytes = numberedList (listing sha256 book (isdAsn src) (isdAsn dst) bytes)
+
+-- of `combinator_routes`
+unfoldable pub routesReturned : List ℕ → ℕ → ℕ → ℕ → Returned
+routesReturned book src dst bytes = numberedList (routing sha256 book (isdAsn src) (isdAsn dst) bytes)
 
 -- of `combinator_assemble`
 unfoldable pub pathReturned : List ℕ → ℕ → ℕ → List ℕ → ℕ → Returned

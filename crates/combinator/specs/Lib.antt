@@ -1,3 +1,4 @@
 pub mod Exports
 pub mod Demand1
 pub mod Demand3
+pub mod Routes

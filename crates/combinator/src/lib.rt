@@ -2,7 +2,7 @@
 // number is the answer itself; 65,536 + N is refusal N.
 ghost use mathlib.Core.Path.{_≡_};
 ghost use lib.ListN.{length};
-ghost use Rattle.combinator.specs.Exports.{listReturned, pathReturned};
+ghost use Rattle.combinator.specs.Exports.{listReturned, routesReturned, pathReturned};
 use spec::IsdAsn;
 use spec::ListAnswer;
 use spec::PathAnswer;
@@ -18,6 +18,18 @@ pub extern "C" fn combinator_list(src: u64, dst: u64, book: &[u8], out: &mut [u8
     match answer {
         ListAnswer::Count(n) => n as u32,
         ListAnswer::Refused(r) => REFUSALS + r.number(),
+    }
+}
+
+// Lists the routes from `src` to `dst` of a book into `out`: of the solutions with one list of interfaces, the longest-lived.
+#[no_mangle]
+pub extern "C" fn combinator_routes(src: u64, dst: u64, book: &[u8], out: &mut [u8]) -> u32
+    ensures { λ r. ⌜ (r, now (out .exit)) ≡ routesReturned (now (book .entry)) src dst (length (now (out .entry))) ⌝ }
+{
+    let answer = path::routes(IsdAsn(src), IsdAsn(dst), book, out);
+    match answer {
+        ListAnswer::Count(n) => n as u32,
+        ListAnswer::Refused(refusal) => REFUSALS + refusal.number(),
     }
 }
 

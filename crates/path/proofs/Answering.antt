@@ -30,7 +30,9 @@ use Rattle.spec.proofs.BookLaws.{stored}
 use Rattle.spec.proofs.ByteLaws.{edges-back}
 use Rattle.spec.proofs.ChainLaws.{allowed-length}
 use Rattle.spec.proofs.LengthLaws.{solution-length}
-use Rattle.spec.proofs.AnswerLaws.{assembly-refused, assembly-small}
+use Rattle.spec.proofs.AnswerLaws.{assembly-refused, assembly-small, assembly-chain}
+use Rattle.spec.specs.Chains.{IsChain}
+use Rattle.path.specs.Slots.{pathIn, OfBook}
 use Rattle.output.specs.Write.{zeroed}
 use Rattle.output.proofs.Writing.{zeroed-all}
 use Rattle.book.specs.Offsets.{openTable}
@@ -122,6 +124,15 @@ edges-again c =
     ∙ ap (map edgeBy) (record-edges c)
     ∙ map-map edgeBy solutionEdge c
 
+count-back : (c : List Edge) → solutionIn (solutionOctets c) .count ≡ length c
+unfolding solutionIn solutionOctets padded octets2
+count-back c = refl
+
+-- a chain's record has the chain's path
+pub path-back : (b : List ℕ) (c : List Edge) → length c ≤ maxEdges → pathIn b (solutionOctets c) ≡ combinedPath b c
+unfolding pathIn
+path-back b c few = ap (combinedPath b) (ap (edgesIn (solutionOctets c)) (count-back c) ∙ edges-again c) ∙ same-path b c
+
 -- ---- what the assembly of a chain goes by
 
 module _ (b : List ℕ) (src dst : IsdAsn) (given : List ℕ) (n : ℕ) (of : (c : List Edge) × OfChain b src dst given c × (length c ≡ n)) where
@@ -158,6 +169,13 @@ module _ (b : List ℕ) (src dst : IsdAsn) (given : List ℕ) (n : ℕ) (of : (c
       → _≡_ {A = Assembled} (r, o) (assembly b src dst given bytes)
   path-answer bytes room r o p =
       ap₂ (λ x l. (x, l)) (p .0) (p .1) ∙ ap (pathAnswer b bytes) chain-edges ∙ same-answer b bytes c ∙ sym (of .1 .answer bytes room)
+
+-- a chain's record is the book's
+pub of-book : (b : List ℕ) (src dst : IsdAsn) (c : List Edge) → verdict b ≡ Accepted → IsChain b src dst c → OfBook b (solutionOctets c)
+of-book b src dst c ok h =
+    subst (RecordInBook b (solutionOctets c)) (sym (count-back c))
+    (chain-in-book b src dst (solutionOctets c) (length c)
+    (c, record { ok = ok; chain = h; its = refl; answer = λ bytes room. assembly-chain b src dst bytes ok room c h }, refl))
 
 pub table-ready : (b table : List ℕ) → verdict b ≡ Accepted → table ≡ openTable b → Ready b table
 table-ready b table ok q = record { ok = ok; table = q ∙ open-accepted b refl ok }

@@ -55,7 +55,7 @@ module _ (b : List ℕ) (c : List Edge) where
   unfolding edgeBytes combinedPath
   ases-of = sym (flat-flat (interfacesOn b) interfaceAsOctets c)
 
-  ids-of : flatMap (edgeBytes b Ids) c ≡ flatMap interfaceIdOctets (combinedPath b c .interfaces)
+  pub ids-of : flatMap (edgeBytes b Ids) c ≡ flatMap interfaceIdOctets (combinedPath b c .interfaces)
   unfolding edgeBytes combinedPath
   ids-of = sym (flat-flat (interfacesOn b) interfaceIdOctets c)
 
@@ -137,12 +137,12 @@ module _ (b : List ℕ) (bytes : Bytes b) (accepted : AcceptedBook b) (c : List 
   ases-are : map (λ k. isdAsnAt a (0 + 8 * k)) (range 0 (length (p .interfaces))) ≡ map localOf (p .interfaces)
   ases-are = ases-read (p .interfaces) (good-interfaces b bytes c) a [] (drop (ends .ases) a) 0 refl ases-stand
 
-  as-read : (k : ℕ) → k < length (p .interfaces) → isdAsnAt a (0 + 8 * k) ≡ getD (p .interfaces) k noInterface .local
+  pub as-read : (k : ℕ) → k < length (p .interfaces) → isdAsnAt a (0 + 8 * k) ≡ getD (p .interfaces) k noInterface .local
   as-read k h =
       sym (map-range-at (λ i. isdAsnAt a (0 + 8 * i)) 0 (length (p .interfaces)) k (noInterface .local) h ∙ ap (λ i. isdAsnAt a (0 + 8 * i)) (zero-add k))
       ∙ ap (λ l. getD l k (noInterface .local)) ases-are ∙ List·getD-map localOf (p .interfaces) k noInterface
 
-  loop-read : someThrice (numbersIn a 0 (ends .ases / 8)) ≡ isLoop (p .interfaces)
+  pub loop-read : someThrice (numbersIn a 0 (ends .ases / 8)) ≡ isLoop (p .interfaces)
   loop-read = ap someThrice (ap (numbersIn a 0) (interfaces-count .0) ∙ numbers) ∙ sym (loop-thrice (p .interfaces))
     where
       numbers : numbersIn a 0 (length (p .interfaces)) ≡ map numberOf (p .interfaces)

@@ -8,3 +8,10 @@ pub mod Chaining
 pub mod Thrice
 pub mod Assembling
 pub mod Answering
+pub mod Interfaces
+pub mod Weighing
+pub mod Buffers
+pub mod Buckets
+pub mod Seeking
+pub mod Keeping
+pub mod Listing

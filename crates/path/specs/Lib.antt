@@ -3,3 +3,5 @@ pub mod Places
 pub mod Parts
 pub mod Thrice
 pub mod Whole
+pub mod Marking
+pub mod Slots

@@ -2,8 +2,11 @@
 mod edge;
 mod entry;
 mod loop_test;
+mod mark;
 mod places;
 mod record;
+mod route_list;
+mod shown;
 mod within;
 
 ghost use mathlib.Core.Path.{_≡_};
@@ -15,6 +18,7 @@ ghost use Rattle.graph.specs.Ready.{Ready};
 ghost use Rattle.path.specs.Edges.{edgesIn, RecordInBook};
 use book::PLACES;
 use graph::Chain;
+pub use route_list::routes;
 use spec::IsdAsn;
 use spec::Path;
 use spec::PathAnswer;
@@ -22,9 +26,9 @@ use spec::PathInterface;
 use spec::Refusal;
 
 // The most bytes of a path's interface ASes, and of their ids.
-const ASES: usize = PathInterface::AS * Path::INTERFACES;
+pub(crate) const ASES: usize = PathInterface::AS * Path::INTERFACES;
 
-const IDS: usize = PathInterface::ID * Path::INTERFACES;
+pub(crate) const IDS: usize = PathInterface::ID * Path::INTERFACES;
 
 // The path of a record's first `count` edges, in `out`: its record, or zeros where it is Loop or Bare.
 pub(crate) fn build(

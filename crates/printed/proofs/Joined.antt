@@ -1,14 +1,13 @@
 -- The pieces of a printed list, one after the other, are the list.
 -- Assumes nothing.
 use Prim.Native.Nat.{ℕ, suc, _+_, _*_, _<_, _≤_}
-use native.Mathlib.Nat.{zero-add}
 use native.Mathlib.Decide.{decLe}
 use native.Mathlib.Omega.{arith}
 use mathlib.Core.Path.{_≡_, refl, sym, ap, ap₂, _∙_}
 use mathlib.Core.Bool.{Bool, true, false}
 use mathlib.Core.List.{List, [], _∷_, _++_, map, flatMap, append-nil, List·Memᴰ as Mem, List·Memᴰ·head as head, List·Memᴰ·tail as tail, head-eq-of-cons-eq, tail-eq-of-cons-eq}
 use lib.ListN.{length, take, drop, replicate, length-map, length-drop}
-use lib.Seq.{take-at, take-all, length-take-le, drop-append-add}
+use lib.Seq.{take-all, length-take-le}
 use lib.Dec.{ltb}
 use borrow.Author.Tests.{lt-ltb, le-ltb, ltb-false}
 use Rattle.sha256.specs.Message.{sha256}
@@ -27,48 +26,14 @@ use Rattle.spec.specs.Order.{solutions}
 use Rattle.spec.specs.Records.{solutionOctets, slots}
 use Rattle.spec.specs.Answers.{Listed, refusedList, listingOf, listingOn, listing, assembly}
 use Rattle.spec.specs.Printed.{item, newline, solutionsLines, isPath, assembles, refusedLine, printedOn, printed}
-use Rattle.spec.proofs.Lists.{map-same, flat-map}
-use Rattle.spec.proofs.Membership.{map-mem}
 use Rattle.spec.proofs.ChainLaws.{allowed-length}
 use Rattle.spec.proofs.OnceLaws.{solutions-sound}
-use Rattle.spec.proofs.ByteLaws.{read-all}
-use Rattle.spec.proofs.LengthLaws.{solution-length, slots-fit}
+use Rattle.spec.proofs.LengthLaws.{slots-fit}
 use Rattle.spec.proofs.PrintedLaws.{printed-short, printed-refused, printed-count}
-use Rattle.order.specs.Records.{recordFrom, recordAt}
+use Rattle.order.specs.Records.{recordAt}
+use Rattle.path.proofs.Listing.{records-read}
 use Rattle.printed.specs.Pieces.{endsSize, solutionText, slotText, slotHasPath, pathsTo, listed, countsLine, firstBy, firstLine, countOf, pieces}
 use Rattle.printed.proofs.Solutions.{text-chain}
-
--- ---- the slots hold the records
-
-whole : List ℕ → List ℕ
-whole r = r
-
-module _ (found : List (List Edge)) (few : (c : List Edge) → Mem c found → length c ≤ maxEdges) (rest : List ℕ) where
-  abbrev bytes : List ℕ
-  bytes = flatMap solutionOctets found ++ rest
-
-  from-shift : (xs ys : List ℕ) (i : ℕ) → recordFrom (xs ++ ys) (length xs + i) ≡ recordFrom ys i
-  from-shift xs ys i = ap (take solutionSize) (drop-append-add xs ys i)
-
-  from-back : (r : List ℕ) → length r ≡ solutionSize → (more : List ℕ) → recordFrom (whole r ++ more) 0 ≡ r
-  unfolding whole
-  from-back r h more = take-at r more solutionSize h
-
-  whole-length : (r : List ℕ) → length r ≡ solutionSize → length (whole r) ≡ solutionSize
-  unfolding whole
-  whole-length r h = h
-
-  flat-records : flatMap whole (map solutionOctets found) ≡ flatMap solutionOctets found
-  unfolding whole
-  flat-records = flat-map solutionOctets whole found
-
-  records-read : map (recordAt (flatMap solutionOctets found ++ rest)) (range 0 (length found)) ≡ map solutionOctets found
-  records-read =
-      map-same (recordAt bytes) (λ k. recordFrom bytes (0 + solutionSize * k)) (λ k. ap (recordFrom bytes) (sym (zero-add (solutionSize * k)))) (range 0 (length found))
-      ∙ ap (λ n. map (λ k. recordFrom bytes (0 + solutionSize * k)) (range 0 n)) (sym (length-map found solutionOctets))
-      ∙ read-all recordFrom whole (λ r. length r ≡ solutionSize) solutionSize from-shift from-back whole-length bytes 0 (map solutionOctets found)
-      (λ r m. let w = map-mem solutionOctets found m in ap length (w .2) ∙ solution-length (w .0) (few (w .0) (w .1)))
-      0 [] rest refl (ap (λ l. l ++ rest) (sym flat-records))
 
 -- ---- each slot's piece is its solution's
 

@@ -12,6 +12,8 @@ const ANSWERS: u32 = 1;
 
 const REFUSALS: u32 = 2;
 
+const ROUTES: u32 = 3;
+
 // No number of the input's: it ends here, or is malformed.
 const NONE: u32 = 4294967295;
 
@@ -122,6 +124,13 @@ fn list(input: &[u8], out: &mut [u8]) -> u32 {
     let src = octets::be64(input, 0);
     let dst = octets::be64(input, ENDS / 2);
     combinator::combinator_list(src, dst, book(input), out)
+}
+
+fn routes(input: &[u8], out: &mut [u8]) -> u32 {
+    fill(out);
+    let src = octets::be64(input, 0);
+    let dst = octets::be64(input, ENDS / 2);
+    combinator::combinator_routes(src, dst, book(input), out)
 }
 
 fn assemble(input: &[u8], record: &[u8], out: &mut [u8]) -> u32 {
@@ -250,6 +259,44 @@ fn refusals(input: &[u8], out: &mut [u8], slots: &mut [u8]) -> usize {
     )
 }
 
+// ---- routes
+
+// What is answered: the count, or a refusal.
+fn number_wanted(refusal: u32, count: u32) -> u32 {
+    if refusal == 0 {
+        return count;
+    }
+    if 255 < refusal {
+        return NONE;
+    }
+    REFUSED + refusal
+}
+
+fn routes_of(input: &[u8], wanted: u32, records: &[u8], out: &mut [u8]) -> usize {
+    let answer = routes(input, out);
+    compared(answer, wanted, out, records)
+}
+
+// A case of routes.bin, after its input.
+fn routed(input: &[u8], out: &mut [u8], records: &mut [u8]) -> usize {
+    let room = length(4);
+    let refusal = number(1);
+    let count = number(2);
+    let n = Solution::SIZE * count as usize;
+    if !take(records, n) {
+        return BROKEN;
+    }
+    if out.len() < room {
+        return BROKEN;
+    }
+    routes_of(
+        input,
+        number_wanted(refusal, count),
+        first(records, n),
+        &mut out[0..room],
+    )
+}
+
 // ---- labels and their cases
 
 fn case(kind: u32, input: &mut [u8], out: &mut [u8], slots: &mut [u8]) -> usize {
@@ -262,6 +309,9 @@ fn case(kind: u32, input: &mut [u8], out: &mut [u8], slots: &mut [u8]) -> usize 
     }
     if kind == ANSWERS {
         return answers(first(input, n), out, slots);
+    }
+    if kind == ROUTES {
+        return routed(first(input, n), out, slots);
     }
     refusals(first(input, n), out, slots)
 }
@@ -293,6 +343,9 @@ fn say_label(label: &[u8], cases: u64, differ: u64) {
 
 fn is_case(tag: u32) -> bool {
     if tag == ANSWERS {
+        return true;
+    }
+    if tag == ROUTES {
         return true;
     }
     tag == REFUSALS

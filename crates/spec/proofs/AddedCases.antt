@@ -23,8 +23,10 @@ use Rattle.spec.specs.Records
 use Rattle.spec.specs.Router
 use Rattle.spec.specs.Answers
 use Rattle.spec.specs.Printed
+use Rattle.spec.specs.Routes
 use Rattle.spec.proofs.PinnedCases
-use Rattle.spec.proofs.CasesForm.{entry, peer, segment, book, edge, solution, accept, list, print, assemble, hold, room, input, Case, case, sketchOf, answer, right, every, a0, a110, a111, a112, a113, a114, b110, mac0, mac1, mac2, mac3}
+use Rattle.spec.proofs.RouteCases
+use Rattle.spec.proofs.CasesForm.{entry, peer, segment, book, edge, solution, accept, list, route, print, assemble, hold, room, input, Case, case, sketchOf, answer, right, every, a0, a110, a111, a112, a113, a114, b110, mac0, mac1, mac2, mac3}
 
 -- ---- the books
 
@@ -529,6 +531,8 @@ pub hashed : List Case
 hashed =
     -- the Rust: the second segment has the smaller fingerprint
     case (list fingerprintBook a111 a110 32) (2 ∷ (solution 1 (edge 1 0 0 0 ∷ []) ++ solution 1 (edge 0 0 0 0 ∷ [])))
+    -- by hand: two routes, in that order
+    ∷ case (route fingerprintBook a111 a110 32) (2 ∷ (solution 1 (edge 1 0 0 0 ∷ []) ++ solution 1 (edge 0 0 0 0 ∷ [])))
     ∷ []
 
 -- ---- the theorem
@@ -536,8 +540,8 @@ hashed =
 unfoldable pub unhashed : List ℕ → List ℕ
 unhashed m = m
 
-pub all-right : T (every (right unhashed) (table ++ PinnedCases.table) && every (right Message.sha256) hashed)
-unfolding table hashed PinnedCases.table unhashed every right answer sketchOf flatMap
+pub all-right : T (every (right unhashed) (table ++ PinnedCases.table ++ RouteCases.table) && every (right Message.sha256) hashed)
+unfolding table hashed PinnedCases.table RouteCases.table unhashed every right answer sketchOf flatMap
     Basics.any Basics.filter Basics.range Basics.sum Basics.sameList Basics.padded
     Octets.be16 Octets.be32 Octets.be64 Octets.octets2 Octets.octets4 Octets.octets8
     Book.cores Book.nonCores Book.bodyTotal Book.segmentCount Book.headOffset Book.timestampAt Book.idAt Book.entryCountAt Book.bodyLengthAt
@@ -563,6 +567,8 @@ unfolding table hashed PinnedCases.table unhashed every right answer sketchOf fl
     Printed.ascii Printed.decimalIn Printed.decimal Printed.hex Printed.item Printed.newline Printed.infoLine Printed.interfaceLine
     Printed.pathLines Printed.outcomeLines Printed.solutionLines Printed.solutionsLines Printed.hasPath Printed.refusedLine Printed.listLines
     Printed.printed
+    Routes.sameInterface Routes.sameInterfaces Routes.longer Routes.hold Routes.holdAll Routes.routeOf Routes.lastsTo Routes.withPath Routes.routes
+    Routes.routingOf Routes.routing
     Words.Σ₀ Words.Σ₁ Words.σ₀ Words.σ₁ Words.next Constants.K Hash.words Hash.schedule Hash.round Hash.rounds Hash.compress Hash.output Message.padding
     Message.pad Message.blocks Message.sha256
 all-right = tt

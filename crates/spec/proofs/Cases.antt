@@ -2,7 +2,7 @@
 -- Every answer is the specification's own. No case depends on the digest.
 -- Assumes nothing.
 use Prim.Native.Nat.{ℕ}
-use mathlib.Core.List.{List, [], _∷_, flatMap}
+use mathlib.Core.List.{List, [], _∷_, _++_, flatMap}
 use lib.ListN.{replicate}
 use lib.Dec.{T}
 use Rattle.spec.specs.Basics
@@ -15,7 +15,8 @@ use Rattle.spec.specs.Assembly
 use Rattle.spec.specs.Records
 use Rattle.spec.specs.Answers
 use Rattle.spec.specs.Printed
-use Rattle.spec.proofs.CasesForm.{entry, peer, Draft, segment, book, edge, solution, accept, list, print, live, input, Case, case, answer, right, every, a110, a111, a112, mac0, mac1}
+use Rattle.spec.specs.Routes
+use Rattle.spec.proofs.CasesForm.{entry, peer, Draft, segment, book, edge, solution, accept, list, route, print, live, input, Case, case, answer, right, every, a110, a111, a112, mac0, mac1}
 
 -- ---- the books
 
@@ -42,6 +43,14 @@ coresBook =
     ∷ segment 1 2 (entry a111 1500 0 0 3 63 mac0 [] ∷ entry a112 1500 0 4 0 63 mac1 [] ∷ [])
     ∷ [])
     []
+
+-- the worked segment, and at a timestamp a copy of its route, of which an AS in the midst shows no interface
+abbrev pub copiesBook : ℕ → List ℕ
+copiesBook timestamp =
+    book []
+    (worked 1000000 1500 []
+    ∷ segment timestamp 0x1234 (entry a110 1500 0 0 5 63 mac0 [] ∷ entry a112 1500 0 0 0 63 mac0 [] ∷ entry a111 1400 1350 7 0 63 mac1 [] ∷ [])
+    ∷ [])
 
 abbrev pub manyEntries : ℕ → List ℕ
 manyEntries n = book [] (segment 1 2 (replicate n (entry a110 1500 0 0 1 63 mac0 [])) ∷ [])
@@ -83,6 +92,10 @@ table =
     -- one solution, no slot: 8; one slot: listed
     ∷ case (list workedBook a111 a110 15) (65544 ∷ replicate 15 0)
     ∷ case (list workedBook a111 a110 16) (1 ∷ solution 1 (edge 0 0 0 0 ∷ []))
+    -- one route, two solutions: the second, where it lives longer; the first, where both live as long; a slot for one: 8
+    ∷ case (route (copiesBook 1000001) a111 a110 32) (1 ∷ (solution 2 (edge 1 0 0 0 ∷ []) ++ replicate 16 0))
+    ∷ case (route (copiesBook 1000000) a111 a110 32) (1 ∷ (solution 1 (edge 0 0 0 0 ∷ []) ++ replicate 16 0))
+    ∷ case (route (copiesBook 1000001) a111 a110 16) (65544 ∷ replicate 16 0)
     ∷ []
 
 -- ---- the theorem
@@ -98,7 +111,7 @@ unfolding table every right answer flatMap
     Edges.asInsertions Edges.peerInsertions Edges.entryInsertions Edges.insertions Edges.sameEnds Edges.lasting Edges.sameBool Edges.sameSegment
     Edges.inConstruction Edges.isEarlier Edges.isFirst Edges.firsts Edges.storedOf Edges.storedEdges
     Chains.allowedKinds Chains.leaves Chains.leaving Chains.beginning Chains.walks Chains.chains
-    Order.compareBy Order.solutionEdge Order.weightOf Order.cost Order.insertAll Order.insert Order.solutions
+    Order.compareBy Order.solutionEdge Order.weightOf Order.cost Order.compareSolutions Order.compareChains Order.insertAll Order.insert Order.solutions
     Assembly.least Assembly.isPeerEdge Assembly.atShortcut Assembly.isPeerHop Assembly.hopCount Assembly.usedEntries Assembly.hopOf Assembly.mtusAt
     Assembly.interfaceIf Assembly.interfacesAt Assembly.inDirection Assembly.foldStep Assembly.foldMacs Assembly.macOf Assembly.idBelow Assembly.stopAt Assembly.life Assembly.hopsOf
     Assembly.interfacesOf Assembly.mtusOf Assembly.infoOf Assembly.expiryOf Assembly.segmentOf Assembly.unitsOf Assembly.infoOn Assembly.hopsOn Assembly.interfacesOn Assembly.mtusOn Assembly.expiryOn Assembly.combinedPath Assembly.isOf Assembly.timesOf Assembly.isCrowded Assembly.isLoop Assembly.isBare Assembly.outcome
@@ -106,4 +119,6 @@ unfolding table every right answer flatMap
     Answers.refusedList Answers.listingOf Answers.listing
     Printed.ascii Printed.decimalIn Printed.decimal Printed.hex Printed.item Printed.newline Printed.infoLine Printed.interfaceLine Printed.pathLines
     Printed.outcomeLines Printed.solutionLines Printed.solutionsLines Printed.hasPath Printed.refusedLine Printed.listLines Printed.printed
+    Routes.sameInterface Routes.sameInterfaces Routes.longer Routes.hold Routes.holdAll Routes.routeOf Routes.lastsTo Routes.withPath Routes.routes
+    Routes.routingOf Routes.routing
 all-right digest = tt

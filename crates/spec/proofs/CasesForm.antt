@@ -15,6 +15,7 @@ use Rattle.spec.specs.Records.{bit, slots}
 use Rattle.spec.specs.Router.{routerIds}
 use Rattle.spec.specs.Answers.{Listed, Assembled, listing, assembly, verdictNumber, listNumber, pathNumber}
 use Rattle.spec.specs.Printed.{printed}
+use Rattle.spec.specs.Routes.{routing}
 
 -- ---- books
 
@@ -66,6 +67,8 @@ pub data Question : Type 0 where
   accept : List ℕ → Question
   -- the list from a source to a destination, in so many bytes
   list : List ℕ → ℕ → ℕ → ℕ → Question
+  -- the routes from a source to a destination, in so many bytes
+  route : List ℕ → ℕ → ℕ → ℕ → Question
   -- what is printed for an input
   print : List ℕ → Question
   -- the path of a record, in so many bytes
@@ -98,6 +101,9 @@ unfoldable pub answer : (List ℕ → List ℕ) → Question → List ℕ
 answer digest (accept b) = verdictNumber (verdict b) ∷ []
 answer digest (list b src dst bytes) =
     let l : Listed = listing digest b (isdAsn src) (isdAsn dst) bytes in
+    listNumber (l .0) ∷ l .1
+answer digest (route b src dst bytes) =
+    let l : Listed = routing digest b (isdAsn src) (isdAsn dst) bytes in
     listNumber (l .0) ∷ l .1
 answer digest (print i) = printed digest i
 answer digest (assemble b src dst given bytes) =

@@ -12,6 +12,7 @@ use Rattle.spec.proofs.AnswerLaws.{sameList-eq}
 use Rattle.spec.proofs.CasesForm.{Case, answer, right, every}
 use Rattle.spec.proofs.Cases
 use Rattle.spec.proofs.PinnedCases
+use Rattle.spec.proofs.RouteCases
 use Rattle.spec.proofs.AddedCases
 
 every-mem : (p : Case → Bool) (cs : List Case) → T (every p cs) → (c : Case) → Mem c cs → p c ≡ true
@@ -30,9 +31,9 @@ answered digest cs t c m =
 pub p-answer : (digest : List ℕ → List ℕ) (c : Case) → Mem c Cases.table → answer digest (c .question) ≡ c .expected
 p-answer digest = answered digest Cases.table (Cases.all-right digest)
 
--- the second and the third table, and the cases with SHA-256
+-- the second, the third and the fourth table, and the cases with SHA-256
 abbrev added : List Case
-added = AddedCases.table ++ PinnedCases.table
+added = AddedCases.table ++ PinnedCases.table ++ RouteCases.table
 
 both : T (every (right AddedCases.unhashed) added) × T (every (right sha256) AddedCases.hashed)
 both =

@@ -28,7 +28,6 @@ use Rattle.spec.specs.Order.{solutionEdge, solutions}
 use Rattle.spec.specs.Assembly.{CombinedPath, combinedPath, outcome}
 use Rattle.spec.specs.Records.{edgeOctets, solutionOctets, pathOctets, slots}
 use Rattle.spec.specs.Answers.{Listed, Assembled, refusedList, listingOf, listingOn, listing, refusedPath, outputOf, pathAnswer, pathOfRecord, assemblyOn, assembly}
-use Rattle.spec.specs.Demand1.{Demand1}
 use Rattle.spec.proofs.ChainLaws.{allowed-length, chains-sound}
 use Rattle.spec.proofs.OnceLaws.{solutions-sound}
 use Rattle.spec.proofs.BookLaws.{accepted}
@@ -144,15 +143,3 @@ module _ (b : List ℕ) (bytes : ℕ) where
       go : (v : Verdict) → verdict b ≡ v → Clean (assemblyOn v b bytes given (chains b src dst))
       go (RefusedBook r) q = refused-clean r
       go Accepted q = small q (ltb bytes pathSize) refl
-
--- ---- demand 1
-
-pub demand-1 : (digest : List ℕ → List ℕ) (b : List ℕ) → Bytes b → (src dst : IsdAsn) (given : List ℕ) (bytes : ℕ) → Demand1 digest b src dst given bytes
-demand-1 digest b bs src dst given bytes =
-    let a = assembly-clean b bytes bs src dst given in
-    record {
-      list-length = list-length digest b src dst bytes;
-      list-refused = list-refused digest b src dst bytes;
-      path-length = a .size;
-      path-none = a .none;
-    }

@@ -50,7 +50,7 @@ module _ (b : List ℕ) (src dst : IsdAsn) (ok : verdict b ≡ Accepted) (c : Li
 
 -- ---- the whole list
 
-filter-same : {A : Type 0} (p q : A → Bool) (xs : List A) → ((x : A) → Mem x xs → p x ≡ q x) → filter p xs ≡ filter q xs
+pub filter-same : {A : Type 0} (p q : A → Bool) (xs : List A) → ((x : A) → Mem x xs → p x ≡ q x) → filter p xs ≡ filter q xs
 unfolding filter
 filter-same p q [] same = refl
 filter-same p q (x ∷ xs) same =

@@ -1,4 +1,4 @@
--- Demand 1 as a statement about listing and assembly.
+-- Demand 1 as a statement about listing, routing and assembly.
 -- Assumes nothing.
 use Prim.Native.Nat.{ℕ}
 use mathlib.Core.Path.{_≡_}
@@ -9,10 +9,13 @@ use Rattle.spec.specs.declared.Refusal.{Refusal}
 use Rattle.spec.specs.declared.ListAnswer.the-variants.{Refused as RefusedList}
 use Rattle.spec.specs.declared.PathAnswer.the-variants.{Path}
 use Rattle.spec.specs.Answers.{listing, assembly}
+use Rattle.spec.specs.Routes.{routing}
 
 -- 12.1: on every input the output keeps its length, and whatever is no list or path leaves it zero
 pub record Demand1 (digest : List ℕ → List ℕ) (b : List ℕ) (src dst : IsdAsn) (given : List ℕ) (bytes : ℕ) : Type 0 where
   pub list-length : length (listing digest b src dst bytes .1) ≡ bytes
   pub list-refused : (r : Refusal) → listing digest b src dst bytes .0 ≡ RefusedList r → listing digest b src dst bytes .1 ≡ replicate bytes 0
+  pub routes-length : length (routing digest b src dst bytes .1) ≡ bytes
+  pub routes-refused : (r : Refusal) → routing digest b src dst bytes .0 ≡ RefusedList r → routing digest b src dst bytes .1 ≡ replicate bytes 0
   pub path-length : length (assembly b src dst given bytes .1) ≡ bytes
   pub path-none : (assembly b src dst given bytes .0 ≡ Path → ⊥) → assembly b src dst given bytes .1 ≡ replicate bytes 0

@@ -1,12 +1,14 @@
 //! Segments in, paths out.
 
 use combinator::{
-    assemble, combine, list, paths, AsEntry, BookWriter, HopField, IsdAsn, OwnedPath, OwnedSegment,
-    Path, Refusal, Solution, MAX_BOOK, MAX_ENTRIES, MAX_SEGMENTS, MAX_SOLUTIONS,
+    assemble, combine, combine_routes, list, paths, route_paths, AsEntry, BookWriter, HopField,
+    IsdAsn, OwnedPath, OwnedSegment, Path, Refusal, Solution, MAX_BOOK, MAX_ENTRIES, MAX_SEGMENTS,
+    MAX_SOLUTIONS,
 };
 
 use crate::{
     common::{decode, worked},
+    routes::reissued,
     worked::{DST, SRC},
 };
 
@@ -95,6 +97,25 @@ fn best_first() {
     let got = combine(SRC, DST, &cores, &non_cores).unwrap();
     let lengths: Vec<_> = got.iter().map(|p| p.as_path().hops().len()).collect();
     assert_eq!(lengths, [4, 4, 6]);
+}
+
+/// Of one route the path that lives longest, by segments and by their book.
+#[test]
+fn one_for_each_route() {
+    let [cores, non_cores] = decode(&reissued());
+    let expiries = |paths: Result<Vec<OwnedPath>, Refusal>| -> Vec<u32> {
+        let paths = paths.unwrap();
+        paths.iter().map(|p| p.as_path().expiry()).collect()
+    };
+    let all = combine(SRC, DST, &cores, &non_cores);
+    assert_eq!(expiries(all), [1337, 3337, 2337, 3337, 837]);
+    let routes = combine_routes(SRC, DST, &cores, &non_cores);
+    assert_eq!(routes, route_paths(SRC, DST, &reissued()));
+    assert_eq!(expiries(routes), [3337, 837]);
+    assert_eq!(route_paths(SRC, DST, &[]), Err(Refusal::Cut));
+    let crowd = vec![segment(1, DST, SRC); MAX_SEGMENTS + 1];
+    let refused = combine_routes(SRC, DST, &[], &crowd);
+    assert_eq!(refused, Err(Refusal::Crowded));
 }
 
 #[test]

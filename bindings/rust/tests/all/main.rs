@@ -1,10 +1,11 @@
-//! The crate against the library, with nothing from outside the package: the worked example, the writer
-//! of books, refusals, text forms.
+//! The crate against the library, with nothing from outside the package: the worked example, routes, the
+//! writer of books, refusals, text forms.
 
 mod book;
 #[cfg(feature = "alloc")]
 mod combine;
 mod common;
 mod refusal;
+mod routes;
 mod text;
 mod worked;

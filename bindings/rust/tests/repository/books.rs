@@ -21,7 +21,7 @@ fn rewrite<'a>(book: &[u8], room: &'a mut [u8]) -> &'a [u8] {
 #[test]
 fn books_come_back() {
     let mut room = vec![0xa5; MAX_BOOK];
-    for name in ["worked", "house", "core"] {
+    for name in ["worked", "house", "core", "renewed"] {
         let book = file(&format!("examples/{name}.book"));
         assert_eq!(rewrite(&book, &mut room), book, "{name}");
     }

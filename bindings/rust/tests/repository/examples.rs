@@ -48,6 +48,7 @@ fn printed_lists() {
         ("worked", "1-ff00:0:111", "1-ff00:0:110"),
         ("house", "1-ff00:0:131", "1-ff00:0:141"),
         ("core", "1-ff00:0:111", "2-64498"),
+        ("renewed", "1-ff00:0:131", "1-ff00:0:141"),
     ] {
         let book = file(&format!("examples/{name}.book"));
         let want = String::from_utf8(file(&format!("examples/{name}.list"))).unwrap();

@@ -1,6 +1,6 @@
 //! The files of tests/stored: answers of the Rust, and refusals.
 
-use combinator::{assemble, list, Assembled, IsdAsn, Path, Refusal, Solution, LIST_SIZE};
+use combinator::{assemble, list, routes, Assembled, IsdAsn, Path, Refusal, Solution, LIST_SIZE};
 
 use crate::{
     common::{Reader, AS_SIZE},
@@ -145,6 +145,57 @@ fn answers_are_given() {
     assert!(counts.iter().all(|n| *n > 0), "{counts:?}");
 }
 
+/// A record, and of its path the expiry and the bytes of the interfaces.
+struct Held<'a> {
+    record: &'a [u8],
+    expiry: u32,
+    interfaces: &'a [u8],
+}
+
+fn held<'a>(record: &'a [u8], path: &'a [u8]) -> Held<'a> {
+    let mut r = Reader(path);
+    let (infos, hops) = (r.len(1), r.len(1));
+    r.take(4);
+    let expiry = r.u32();
+    r.take(2 * AS_SIZE + 8 * infos + 11 * hops);
+    Held {
+        record,
+        expiry,
+        interfaces: r.0,
+    }
+}
+
+/// The first of a route keeps its place, and a later one takes it over that lives longer.
+#[test]
+fn routes_are_given() {
+    let mut slots = vec![0; LIST_SIZE];
+    let mut counts = [0; 2];
+    for case in cases(&answers()) {
+        let mut want: Vec<Held> = Vec::new();
+        let records = case.records.chunks_exact(Solution::SIZE);
+        for (record, (_, path)) in records.zip(&case.answers).filter(|(_, a)| a.0 == 0) {
+            let new = held(record, path);
+            match want.iter_mut().find(|h| h.interfaces == new.interfaces) {
+                None => want.push(new),
+                Some(here) => {
+                    let longer = new.expiry > here.expiry;
+                    counts[usize::from(longer)] += 1;
+                    if longer {
+                        *here = new;
+                    }
+                }
+            }
+        }
+        let Input { src, dst, book } = case.input;
+        slots.fill(0xa5);
+        let found = routes(src, dst, book, &mut slots).unwrap().as_bytes();
+        let want: Vec<u8> = want.iter().flat_map(|h| h.record).copied().collect();
+        assert_eq!(found, want);
+        assert!(zero(&slots[want.len()..]));
+    }
+    assert!(counts.iter().all(|n| *n > 0), "{counts:?}");
+}
+
 #[cfg(feature = "alloc")]
 #[test]
 fn combined() {
@@ -172,6 +223,10 @@ fn refusals_are_given() {
         let record = r.take(len);
         let want = Refusal::from_number(r.u8());
         let got = if listing {
+            let mut other = out.clone();
+            let refused = routes(src, dst, book, &mut other).err();
+            assert_eq!(refused, want);
+            assert!(refused.is_none() || zero(&other));
             list(src, dst, book, &mut out).err()
         } else {
             assemble(src, dst, book, record, &mut out).err()
