@@ -37,10 +37,13 @@
  *      9 Small     (assembly) the output is under COMBINATOR_PATH_SIZE bytes
  *     10 Stranger  (assembly) the record is not COMBINATOR_RECORD_SIZE bytes, or is no solution of
  *                  this book, source and destination
+ *     11 Twice     an entry whose AS, ISD and AS number, stands earlier in the same segment
  *
- * Of several that hold, the one tested first is answered: 3, 1 (the counts themselves), 4, 1, 2, 5
- * over all heads, 7 (the sum), 6 and 7 body by body; then 8 in listing, 9 and 10 in assembly. So
- * combinator_routes refuses where combinator_list does, and with the same number.
+ * 1 to 7 and 11 are about the book alone, and every function answers them. Of several that hold, the
+ * one tested first is answered: 3, 1 (the counts themselves), 4, 1, 2, 5 over all heads, 7 (the sum);
+ * then body by body 6 and 7, and 11 of a body that has passed these, before the next body; then 8 in
+ * listing, 9 and 10 in assembly. So combinator_routes refuses where combinator_list does, and with
+ * the same number.
  *
  *
  * Buffers
@@ -78,8 +81,8 @@
  * There is no state: all functions may be called at the same time from any threads, each call with
  * an output of its own.
  *
- * A call needs at most COMBINATOR_STACK_SIZE bytes of stack: `driver stack` measured 76,907 for
- * combinator_list, 96,411 for combinator_routes and 3,783 for combinator_assemble.
+ * A call needs at most COMBINATOR_STACK_SIZE bytes of stack: `driver stack` measured 76,859 for
+ * combinator_list, 96,363 for combinator_routes and 3,594 for combinator_assemble.
  *
  * The library has unwind tables: a debugger, or backtrace() in a signal handler, passes through it.
  */
@@ -157,7 +160,8 @@ extern "C" {
 #define COMBINATOR_HEAD_BODY_LENGTH 8 /* 2, bytes */
 #define COMBINATOR_HEAD_SIZE 10
 
-/* A body is its segment's entries in construction order, each followed by its peers. */
+/* A body is its segment's entries in construction order, no two of one AS, each followed by its
+ * peers. */
 #define COMBINATOR_ENTRY_AS 0           /* COMBINATOR_AS_SIZE */
 #define COMBINATOR_ENTRY_MTU 8          /* 4, within the AS */
 #define COMBINATOR_ENTRY_INGRESS_MTU 12 /* 2, of the link at the ingress, or 0 */
@@ -250,11 +254,12 @@ extern "C" {
 #define COMBINATOR_FULL (COMBINATOR_REFUSED + 8u)
 #define COMBINATOR_SMALL (COMBINATOR_REFUSED + 9u)
 #define COMBINATOR_STRANGER (COMBINATOR_REFUSED + 10u)
+#define COMBINATOR_TWICE (COMBINATOR_REFUSED + 11u)
 
 /* Is an answer a refusal, its number, and the last number. */
 #define COMBINATOR_IS_REFUSAL(answer) ((answer) >= COMBINATOR_REFUSED)
 #define COMBINATOR_REFUSAL(answer) ((answer) - COMBINATOR_REFUSED)
-#define COMBINATOR_LAST_REFUSAL COMBINATOR_REFUSAL(COMBINATOR_STRANGER)
+#define COMBINATOR_LAST_REFUSAL COMBINATOR_REFUSAL(COMBINATOR_TWICE)
 
 /* ---- Functions */
 

@@ -30,6 +30,7 @@ static inline const char *combinator_word(uint32_t answer)
     case COMBINATOR_FULL: return "Full";
     case COMBINATOR_SMALL: return "Small";
     case COMBINATOR_STRANGER: return "Stranger";
+    case COMBINATOR_TWICE: return "Twice";
     default: return "";
     }
 }
@@ -157,6 +158,7 @@ static inline char *combinator_as_write(uint64_t isd_as, char *text)
  *     Oversize   the book would be above COMBINATOR_MAX_BOOK bytes, or above the room's
  *     Crowded, Long, Peers   a segment, entry or peer too many
  *     Misfit     an entry before any segment, or a peer before any entry
+ *     Twice      an entry whose AS stands earlier in its segment
  *
  * A segment of which a part was refused is no longer in the book, and what still comes of it is
  * refused likewise. The next segment begins as if it had not been. */
@@ -304,6 +306,19 @@ static inline uint32_t combinator_refuse(struct combinator_writer *w, uint32_t r
     return w->refused = refusal;
 }
 
+/* Does the AS of the last entry stand earlier in the segment being written? */
+static inline int combinator_repeats(const struct combinator_writer *w)
+{
+    size_t body = (size_t)combinator_number(w->book + w->head + COMBINATOR_HEAD_BODY_LENGTH, 2);
+    const uint8_t *at = w->book + combinator_body_end(w) - body, *last = w->book + w->entry;
+    while (at < last) {
+        if (memcmp(at + COMBINATOR_ENTRY_AS, last + COMBINATOR_ENTRY_AS, COMBINATOR_AS_SIZE) == 0)
+            return 1;
+        at += COMBINATOR_ENTRY_SIZE + COMBINATOR_PEER_SIZE * at[COMBINATOR_ENTRY_PEER_COUNT];
+    }
+    return 0;
+}
+
 COMBINATOR_CALL static inline uint32_t combinator_write_entry(struct combinator_writer *w,
                                                               const struct combinator_entry *entry)
 {
@@ -320,6 +335,8 @@ COMBINATOR_CALL static inline uint32_t combinator_write_entry(struct combinator_
     combinator_add(w, w->head + COMBINATOR_HEAD_ENTRY_COUNT, 2, 1);
     w->entry = at;
     combinator_put(part + COMBINATOR_ENTRY_AS, COMBINATOR_AS_SIZE, entry->as);
+    if (combinator_repeats(w))
+        return combinator_refuse(w, COMBINATOR_TWICE);
     combinator_put(part + COMBINATOR_ENTRY_MTU, 4, entry->mtu);
     combinator_put(part + COMBINATOR_ENTRY_INGRESS_MTU, 2, entry->ingress_mtu);
     combinator_put(part + COMBINATOR_ENTRY_INGRESS, 2, entry->hop.ingress);

@@ -2,7 +2,8 @@
 """The cases made by hand: those that the specification settles by number, and the inputs of docs/DIFFERENCES.md.
 
     cases.py --out FILE        writes them all as a batch
-    cases.py --out FILE --parting WAY    in their place those of differences/ on which the keys of routes part in a way, `finer` or `coarser`
+    cases.py --out FILE --parting WAY    in their place those of differences/ of one way: `finer` or `coarser`, on which the keys of routes part so;
+                                         `refused`, which the Rust answers and the library refuses
     cases.py --names           their names, one a line, in the batch's order
     cases.py --hex NAME        one case in hex (source, destination, book)
 """
@@ -43,7 +44,8 @@ def case(name, s, d, cores=(), noncores=(), raw=None):
 
 
 def entries(n):
-    return seg(*[e(A if i == n - 1 else B, 1, 1) for i in range(n)])
+    """Down from B to A."""
+    return seg(*[e(A if i == n - 1 else B + (i << 16), 1, 1) for i in range(n)])
 
 
 # Settled by number: docs/SPECIFICATION.md 9.2, and what follows from the worked example of 10.6.
@@ -64,6 +66,9 @@ for u in (0, 1, 255):
 case("timestamp 4294967295", A, B, [], [worked(ts=2**32 - 1)])
 case("core A-B, core B-C", A, C, [seg(e(A, 0, 1), e(B, 1)), seg(e(B, 0, 2), e(C, 1))])
 case("AS MTU 70000", A, B, [], [seg(Entry(B, 70000, egress=5, mac=MAC0), Entry(A, 9000, ingress=7, mac=MAC1))])
+case("an AS twice", A, B, [], [seg(e(A, 0, 5), e(B, 1, 2), e(A, 7))])
+case("an AS number in two ISDs", A, B, [], [seg(e(A ^ 3 << 48, 0, 5), e(B, 1, 2), e(A, 7))])
+case("an AS in two segments", A, B, [], [seg(e(B, 0, 5), e(A, 7)), seg(e(B, 0, 6), e(A, 8))])
 case("an AS at three interfaces", A, C, [], [seg(e(B, 0, 1), e(A, 1)), seg(e(B, 3, 2), e(C, 1))])
 case("an AS at two interfaces", A, C, [], [seg(e(B, 0, 1), e(A, 1)), seg(e(B, 0, 2), e(C, 1))])
 # Differences.
@@ -77,7 +82,7 @@ def parting(way):
     """The books of differences/ of one way, each from A to B."""
     for name in sorted(glob.glob(os.path.join(os.path.dirname(os.path.abspath(__file__)), "differences", way + "-*.txt"))):
         with open(name, "rb") as f:
-            segments = text.parse(f.read(), name)
+            segments = text.parse(f.read(), name, repeats=True)
         yield ENDS.pack(A, B) + layout.book([s for s in segments if s.core], [s for s in segments if not s.core])
 
 

@@ -1,13 +1,16 @@
 #!/usr/bin/env python3
 """Compares the oracle's batch text with the driver's (README.md).
 
-    compare.py ORACLE.out DRIVER.out [--show K]
+    compare.py ORACLE.out DRIVER.out [--show K] [--refused]
 
 The Rust leaves ties open (equal cost, edge count and, edge by edge, peer, shortcut and fingerprint):
 each run of ties is compared as a multiset, and the driver's must go by position. Everything else is
 compared in order, every field. `panic` of the Rust stands for `bare`, `undecodable` for a refusal 1
-to 7, whose number is compared where the oracle printed it (--numbers). `full` must stand where there
-are more solutions than slots, and only there.
+to 7 or 11, whose number is compared where the oracle printed it (--numbers). `full` must stand where there
+are more solutions than slots, and only there. Books whose segments pass an AS twice are not given to the
+Rust: they are counted as `twice`, the books that it answers as `once`.
+
+With --refused the oracle was given such books too (--repeats): each must have solutions there, and be refused by the driver.
 
 Routes: the driver's must be those that the rule gives over the Rust's solutions, told apart by their
 lists of interfaces. Where the oracle printed what `combine` answers (--combine), that must be what the
@@ -177,9 +180,11 @@ def differs(a, b, count):
         if not isinstance(a, int):
             return "only the driver refuses"
         count["refused"] += 1
+        count["twice"] += a == layout.TWICE
         return "another refusal" if a and b != [f"refused {a}"] else None
     if isinstance(a, int):
         return "only the oracle refuses"
+    count["once"] += 1
     full = b[:1] == ["full"]
     if full:
         b = b[1:]
@@ -203,16 +208,25 @@ def differs(a, b, count):
     return None if full else routes_differ(a, b, said, count)
 
 
+def only_refused(a, b, count):
+    """Why it is not so that the oracle has solutions and the driver refuses an AS that is passed twice; None where it is."""
+    if isinstance(a, int) or not a:
+        return "no solutions of the Rust"
+    count["solutions"] += len(a)
+    return None if b == [f"refused {layout.TWICE}", f"routes refused {layout.TWICE}"] else "not refused"
+
+
 def main():
     p = argparse.ArgumentParser()
     p.add_argument("oracle")
     p.add_argument("driver")
     p.add_argument("--show", type=int, default=5)
+    p.add_argument("--refused", action="store_true")
     o = p.parse_args()
     count, wrong = Counter(), Counter()
     for i, (a, b) in enumerate(zip(oracle_blocks(o.oracle), driver_blocks(o.driver), strict=True)):
         count["cases"] += 1
-        why = differs(a, b, count)
+        why = only_refused(a, b, count) if o.refused else differs(a, b, count)
         if why is None:
             continue
         wrong[why] += 1
@@ -224,8 +238,8 @@ def main():
                     print("  oracle:", l)
                 for l in (y - x):
                     print("  driver:", l)
-    print(" ".join(f"{k} {count[k]}" for k in ("cases", "solutions", "paths", "refused", "full", "routes", "alike", "finer", "coarser", "panic")),
-          "differing", sum(wrong.values()), *(f"({k} {v})" for k, v in wrong.items()))
+    counted = "cases", "once", "solutions", "paths", "refused", "twice", "full", "routes", "alike", "finer", "coarser", "panic"
+    print(" ".join(f"{k} {count[k]}" for k in counted), "differing", sum(wrong.values()), *(f"({k} {v})" for k, v in wrong.items()))
     sys.exit(1 if wrong else 0)
 
 

@@ -4,7 +4,7 @@
     gen.py --seed 1 --count 20000 --out cases.batch [--profile NAME] [--list-profiles]
 
 Without --profile each case draws its profile by the weights below. With --index FILE the profile
-of each case is written, one line a case.
+of each case is written, one line a case. No segment passes an AS twice but those of `twice`, and by chance of `bad`.
 """
 import argparse
 import random
@@ -81,6 +81,9 @@ class Gen:
         out = [base + i for i in range(k)]
         if self.p(0.3):
             out = [((1 + i % 3) << 48) | 0xFF0000000110 + i for i in range(k)]
+        elif self.p(0.1):
+            # One AS number in every ISD.
+            out = [((1 + i) << 48) | 0xFF0000000110 for i in range(k)]
         if self.p(0.1):
             out[0] = 0
             out[-1] = 2**64 - 1
@@ -125,12 +128,11 @@ def peers_for(g, as_, links, most=MAX_PEERS, often=0.5, foreign=0.05):
     return out
 
 
-def soup_seg(g, universe, links, n, repeat=0.15, peer=0.5, tidy=0.7):
-    path, entries = [], []
-    for i in range(n):
-        free = [a for a in universe if a not in path]
-        a = g.r.choice(free) if free and not g.p(repeat) else g.r.choice(universe)
-        path.append(a)
+def soup_seg(g, universe, links, n, peer=0.5, tidy=0.7):
+    """n entries, or as many as there are ASes."""
+    entries = []
+    n = min(n, len(universe))
+    for i, a in enumerate(g.r.sample(universe, n)):
         ing = 0 if i == 0 and g.p(tidy) else g.ifid()
         egr = 0 if i == n - 1 and g.p(tidy) else g.ifid()
         entries.append(g.entry(a, ing, egr, peers_for(g, a, links, often=peer)))
@@ -155,16 +157,15 @@ def pick_ends(g, cores, noncores, universe):
     return s, d
 
 
-def soup(g, sizes, entries, uni, nlinks, repeat=None):
+def soup(g, sizes, entries, uni, nlinks):
     universe = g.asn(g.r.randint(*uni))
     links = links_between(g, universe, g.r.randint(*nlinks))
     total = g.r.randint(*sizes)
     ncore = g.r.randint(0, total) if g.p(0.3) else total // g.r.choice([3, 4, 5])
-    rep = g.r.choice([0.0, 0.05, 0.3]) if repeat is None else repeat
     cores, noncores = [], []
     for i in range(total):
         n = g.r.randint(*entries) if not g.p(0.05) else g.r.choice([0, 1])
-        s = soup_seg(g, universe, links if i >= ncore or g.p(0.1) else [], n, rep)
+        s = soup_seg(g, universe, links if i >= ncore or g.p(0.1) else [], n)
         (cores if i < ncore else noncores).append(s)
     s, d = pick_ends(g, cores, noncores, universe)
     return s, d, cores, noncores
@@ -232,8 +233,8 @@ def prof_peering(g):
     r = g.r
     noncores, links = [], []
     def seg(leaf):
-        n = r.randint(1, 5)
-        path = [r.choice(universe) for _ in range(n - 1)] + [leaf]
+        n = r.randint(1, min(5, len(universe)))
+        path = r.sample([a for a in universe if a != leaf], n - 1) + [leaf]
         return Segment(g.ts(), g.sid(), [
             g.entry(a, 0 if i == 0 else g.ifid(), 0 if i == n - 1 else g.ifid())
             for i, a in enumerate(path)])
@@ -271,7 +272,7 @@ def prof_three(g):
     for _ in range(r.randint(1, 6)):
         a, b = r.choice(core), r.choice(core)
         mid = [x for x in r.sample(core, r.randint(0, k)) if x not in (a, b)]
-        path = [a] + mid + ([b] if a != b or g.p(0.5) else [])
+        path = [a] + mid + ([b] if a != b else [])
         n = len(path)
         cores.append(Segment(g.ts(), g.sid(), [
             g.entry(x, 0 if i == 0 else g.ifid(), 0 if i == n - 1 else g.ifid())
@@ -280,7 +281,7 @@ def prof_three(g):
     for i in range(r.randint(2, 8)):
         leaf = leaves[i % 2] if g.p(0.8) else r.choice(low)
         mid = r.sample(low, r.randint(0, min(3, len(low))))
-        path = [r.choice(core)] + [x for x in mid if x != leaf or g.p(0.1)] + [leaf]
+        path = [r.choice(core)] + [x for x in mid if x != leaf] + [leaf]
         n = len(path)
         noncores.append(Segment(g.ts(), g.sid(), [
             g.entry(x, 0 if i == 0 else g.ifid(), 0 if i == n - 1 else g.ifid(),
@@ -351,16 +352,14 @@ def prof_network(g):
 
 
 def prof_loops(g):
-    """Self-edges: one-entry segments, first AS = last AS, the leaf's AS again above."""
+    """Few ASes, one-entry segments: cores that lead from an AS to itself, chains that pass an AS again."""
     r = g.r
     universe = g.asn(r.randint(2, 4))
     links = links_between(g, universe, r.randint(0, 3))
     cores, noncores = [], []
     for _ in range(r.randint(1, 6)):
         n = r.choice([0, 1, 1, 2, 3, 4])
-        s = soup_seg(g, universe, links if g.p(0.5) else [], n, repeat=0.6)
-        if n > 1 and g.p(0.5):
-            s.entries[0].isd_as = s.entries[-1].isd_as
+        s = soup_seg(g, universe, links if g.p(0.5) else [], n)
         (cores if g.p(0.4) else noncores).append(s)
     s, d = pick_ends(g, cores, noncores, universe)
     return s, d, cores, noncores
@@ -436,7 +435,7 @@ def prof_limits(g):
     full = r.choice([MAX_ENTRIES, MAX_ENTRIES, 10])
     for i in range(total):
         n = full if g.p(0.7) else r.randint(0, MAX_ENTRIES)
-        s = soup_seg(g, universe, links if i >= ncore else [], n, repeat=0.02, peer=0.9)
+        s = soup_seg(g, universe, links if i >= ncore else [], n, peer=0.9)
         room = MAX_BOOK - size - HEAD.size * (total - i)
         while len(s.body()) > room:
             s.entries.pop()
@@ -455,7 +454,7 @@ def prof_full(g):
     size = COUNTS.size
     nc = r.randint(2, 8)
     while True:
-        s = soup_seg(g, universe, [], MAX_ENTRIES, repeat=0.0)
+        s = soup_seg(g, universe, [], MAX_ENTRIES)
         core = len(cores) < nc
         if not core:
             for e in s.entries:
@@ -520,7 +519,7 @@ def reissue(g, s, others):
     if x < 0.25:
         e.ingress = r.randint(0, 4)
     elif x < 0.35 and len(s.entries) > 2:
-        e.isd_as = r.choice(others)
+        e.isd_as = r.choice([a for a in others if a not in {x.isd_as for x in s.entries}])
     elif x < 0.4:
         e.egress = r.randint(1, 3)
     return s
@@ -584,7 +583,7 @@ def prof_bad(g):
         noncores += [Segment() for _ in range(MAX_SEGMENTS + 1 - len(cores) - len(noncores) - r.randint(0, 1))]
         b = bytearray(layout.book(cores, noncores))
     elif k == 4:
-        noncores.append(soup_seg(g, g.asn(4), [], MAX_ENTRIES + r.choice([0, 1, 2])))
+        noncores.append(soup_seg(g, g.asn(MAX_ENTRIES + 2), [], MAX_ENTRIES + r.choice([0, 1, 2])))
         b = bytearray(layout.book(cores, noncores))
     elif k == 5:
         n = soup_seg(g, g.asn(4), [], 3)
@@ -612,6 +611,49 @@ def prof_bad(g):
     return s, d, bytes(b)
 
 
+def repeat(g, s):
+    """Gives two entries of a segment one AS: neighbours, the ends, or any two. Now and then one that is almost the same, which is no repeat:
+    of another ISD, of another bit anywhere, or of the same last bits alone."""
+    r = g.r
+    if len(s.entries) < 2:
+        s.entries.append(replace(s.entries[0], peers=[]))
+    n = len(s.entries)
+    k = r.randrange(n - 1)
+    i, j = r.choice([(k, k + 1), (0, n - 1), r.sample(range(n), 2)])
+    x = r.random()
+    bits = 0 if x < 0.6 else 1 << r.randrange(48, 64) if x < 0.8 else 1 << r.randrange(64) if x < 0.9 else r.randrange(1, 1 << 58) << 6
+    s.entries[j].isd_as = s.entries[i].isd_as ^ bits
+
+
+def prof_twice(g):
+    """Segments that pass an AS twice, or almost; beside other refusals, before it and after it."""
+    r = g.r
+    s, d, cores, noncores = r.choice([prof_small, prof_copies, prof_peering, prof_three, prof_network])(g)
+    if g.p(0.3) or not any(x.entries for x in cores + noncores):
+        l = r.choice([cores, noncores])
+        l.insert(r.randint(0, len(l)), soup_seg(g, g.asn(MAX_ENTRIES), [], r.choice([2, MAX_ENTRIES, MAX_ENTRIES])))
+    segments = cores + noncores
+    filled = [x for x in segments if x.entries]
+    for _ in range(r.choice([0, 1, 1, 1, 1, 2])):
+        repeat(g, r.choice(filled))
+    b = bytearray(layout.book(cores, noncores))
+    q = r.randrange(len(segments))
+    head, count = head_place(q), len(segments[q].entries)
+    k = r.randrange(10)
+    if k == 0:
+        HEAD.put(b, head, "entry_count", MAX_ENTRIES + r.randint(1, 3))
+    elif k == 1:
+        HEAD.put(b, head, "body_length", max(0, len(segments[q].body()) + r.choice([-1, 1])))
+    elif k == 2:
+        # An entry too few or too many for its body.
+        HEAD.put(b, head, "entry_count", r.choice([max(0, count - 1), min(MAX_ENTRIES, count + 1)]))
+    elif k == 3 and count:
+        i = r.randrange(count)
+        at = head_place(len(segments)) + sum(len(x.body()) for x in segments[:q]) + len(replace(segments[q], entries=segments[q].entries[:i]).body())
+        b[at + ENTRY.at.peer_count] = MAX_PEERS + r.choice([1, 2, 200])
+    return s, d, bytes(b)
+
+
 PROFILES = {
     "tiny": (prof_tiny, 14), "small": (prof_small, 16), "medium": (prof_medium, 10),
     "copies": (prof_copies, 12), "peering": (prof_peering, 14), "three": (prof_three, 10),
@@ -619,7 +661,7 @@ PROFILES = {
     "bare": (prof_bare, 3), "many": (prof_many, 1.5), "crowd": (prof_crowd, 0.5),
     "flood": (prof_flood, 0.08),
     "limits": (prof_limits, 0.7), "full": (prof_full, 0.3), "longest": (prof_longest, 1),
-    "bad": (prof_bad, 2), "worst": (prof_worst, 0), "reissued": (prof_reissued, 0),
+    "bad": (prof_bad, 2), "twice": (prof_twice, 3), "worst": (prof_worst, 0), "reissued": (prof_reissued, 0),
 }
 
 

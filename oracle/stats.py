@@ -63,6 +63,9 @@ def main():
         if isinstance(sols, int):
             tot["undecodable"] += 1
             per[name]["undecodable"] += 1
+            # Told apart where the oracle printed numbers.
+            tot["an AS twice in a segment"] += sols == layout.TWICE
+            per[name]["an AS twice in a segment"] += sols == layout.TWICE
             continue
         source, destination = ENDS.unpack(case)
         b = case[ENDS.size:]
@@ -70,8 +73,6 @@ def main():
         feats["largest book"] = max(feats["largest book"], len(b))
         feats["most segments"] = max(feats["most segments"], len(segs))
         # Features of books.
-        rep = any(len({e.isd_as for e in s.entries}) < len(s.entries) for s in segs)
-        feats["books with a repeated AS in a segment"] += rep
         feats["books with an empty segment"] += any(not s.entries for s in segs)
         feats["books with a one-entry segment"] += any(len(s.entries) == 1 for s in segs)
         feats["books with equal segments"] += len(set(map(repr, segs))) < len(segs)
@@ -80,10 +81,9 @@ def main():
         for s in segs:
             if s.core:
                 continue
-            ends = [e.isd_as for e in s.entries[:-1]]
             pe = [(e.isd_as, q.ingress, q.isd_as, q.interface) for e in s.entries for q in e.peers]
-            over |= len(set(ends)) < len(ends) or len(set(pe)) < len(pe)
-        feats["books where an edge overwrites another"] += over
+            over |= len(set(pe)) < len(pe)
+        feats["books where a peer's edge overwrites another"] += over
         tot["accepted"] += 1
         if source == destination:
             tot["source = destination"] += 1

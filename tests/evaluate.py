@@ -34,7 +34,7 @@ RIGHT = {'||', '&&', 'thenBy', 'andThen', '++', '∷', '^'}
 KW = {'then', 'else', 'in', 'if', 'let', '=', ':'}
 NATIVE = {'getD': ('N_getD', 3), 'take': ('N_take', 2), 'drop': ('N_drop', 2), 'length': ('len', 1), 'replicate': ('N_rep', 2), 'map': ('N_map', 2), 'flatMap': ('N_flat', 2), 'reverse': ('N_rev', 1), 'ltb': ('N_ltb', 2), 'eqb': ('N_eqb', 2), 'not': ('N_not', 1), 'min': ('min', 2), 'compare': ('N_cmp', 2), 'bitXor': ('N_xor', 2), 'code': ('N_code', 1), 'suc': ('N_suc', 1)}
 CONST = {'true': 'True', 'false': 'False', '[]': '()', 'zero': '0', 'Ordering·lt': '-1', 'Ordering·eq': '0', 'Ordering·gt': '1', 'tt': 'None'}
-CONS = {'AS': 1, 'Peering': 4, 'Accepted': 0, 'Refused': 1, 'RefusedBook': 1, 'RefusedList': 1, 'RefusedPath': 1, 'Count': 1, 'Path': 0, 'Loop': 0, 'Bare': 0, **{r: 0 for r in 'Cut Surplus Oversize Crowded Long Peers Misfit Full Small Stranger'.split()}}
+CONS = {'AS': 1, 'Peering': 4, 'Accepted': 0, 'Refused': 1, 'RefusedBook': 1, 'RefusedList': 1, 'RefusedPath': 1, 'Count': 1, 'Path': 0, 'Loop': 0, 'Bare': 0, **{r: 0 for r in 'Cut Surplus Oversize Crowded Long Peers Misfit Full Small Stranger Twice'.split()}}
 
 
 def cname(c):

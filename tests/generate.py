@@ -1,4 +1,5 @@
-"""Books for tests, from a seed: networks as carriers build them, soups of any fields, books at the limits, damaged bytes.
+"""Books for tests, from a seed: networks as carriers build them, soups of any fields, books at the limits, damaged bytes. No segment passes an AS
+twice but where `damaged` makes it.
 
     generate.cases(seed, count) gives (source, destination, book); the same seed gives the same books.
 """
@@ -41,10 +42,10 @@ class Maker:
         return Peer(isd_as, interface, self.mtu(PEER.of.mtu.most), self.units(), ingress, egress, self.mac())
 
     def soup(self, segments, most):
-        """Any ASes in any order, repeats and equal segments among them."""
+        """Any ASes in any order, each once in a segment; equal segments among them."""
         made = []
         for _ in range(segments):
-            path = [self.r.choice(self.ases) for _ in range(self.r.randint(0, most))]
+            path = self.r.sample(self.ases, min(len(self.ases), self.r.randint(0, most)))
             entries = [self.entry(a, self.interface(), self.interface(),
                                   [self.peer(self.r.choice(self.ases), self.interface(), self.interface(), self.interface())
                                    for _ in range(self.r.choice([0, 0, 0, 1, layout.MAX_PEERS]))]) for a in path]
@@ -86,9 +87,9 @@ def full(rng):
     maker = Maker(rng)
     made, size, whole = [], head_place(layout.MAX_SEGMENTS), ENTRY.size + layout.MAX_PEERS * PEER.size
     for _ in range(layout.MAX_SEGMENTS):
-        entries = []
+        entries, ases = [], iter(rng.sample(range(maker.ases[0], maker.ases[0] + 2 * layout.MAX_ENTRIES), layout.MAX_ENTRIES))
         while len(entries) < layout.MAX_ENTRIES and size + whole <= layout.MAX_BOOK:
-            a = rng.choice(maker.ases)
+            a = next(ases)
             entries.append(maker.entry(a, 1, 2, [maker.peer(a, 3, 4, 5)] * layout.MAX_PEERS))
             size += whole
         made.append(maker.segment(entries))
@@ -96,9 +97,9 @@ def full(rng):
 
 
 def damaged(rng, book):
-    """Bytes changed, cut, added, or a count set past its limit."""
+    """Bytes changed, cut, added, a count set past its limit, or an AS that stands twice in a segment."""
     book = bytearray(book)
-    kind = rng.randrange(6)
+    kind = rng.randrange(7)
     if kind == 0:
         del book[rng.randint(0, len(book)):]
     elif kind == 1:
@@ -118,6 +119,13 @@ def damaged(rng, book):
         part = min(rng.randint(0, 30), one, HEAD.of.body_length.most - two)
         HEAD.put(book, head_place(0), "body_length", one - part)
         HEAD.put(book, head_place(1), "body_length", two + part)
+    elif kind == 6 and len(book) >= COUNTS.size:
+        # The AS of the first entry, at the one after it or a later one. Of a segment with as many entries that is a repeat.
+        first = at = head_place(sum(COUNTS.unpack(book)[:2]))
+        for _ in range(rng.randint(1, 2)):
+            at += ENTRY.size + PEER.size * ENTRY.get(book, at, "peer_count")
+        if at + layout.AS_SIZE <= len(book):
+            book[at:at + layout.AS_SIZE] = book[first:first + layout.AS_SIZE]
     return bytes(book)
 
 

@@ -24,17 +24,20 @@ Path = namedtuple("Path", "infos hops interfaces mtu expiry")
 # ---- the book: docs/SPECIFICATION.md 2 and 9.3
 
 def body_verdict(body, entries):
-    at = 0
+    at, passed = 0, []
     for _ in range(entries):
         if len(body) - at < ENTRY.size:
             return layout.MISFIT
-        peers = body[at + ENTRY.at.peer_count]
-        if peers > layout.MAX_PEERS:
+        entry = ENTRY.unpack(body, at)
+        if entry.peer_count > layout.MAX_PEERS:
             return layout.PEERS
-        at += ENTRY.size + PEER.size * peers
+        passed.append(entry.isd_as)
+        at += ENTRY.size + PEER.size * entry.peer_count
         if at > len(body):
             return layout.MISFIT
-    return 0 if at == len(body) else layout.MISFIT
+    if at != len(body):
+        return layout.MISFIT
+    return layout.TWICE if len(set(passed)) < len(passed) else 0
 
 
 def verdict(book):
@@ -86,7 +89,7 @@ def segments(book):
 # ---- edges and chains: docs/SPECIFICATION.md 3 and 4
 
 def stored(segment):
-    """The stored edges of one segment; of those with equal ends the last stands."""
+    """The stored edges of one segment; of those with equal ends, which are peers of one entry or a core of one entry, the last stands."""
     edges, entries = {}, segment.entries
     n = len(entries)
 

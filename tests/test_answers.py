@@ -97,13 +97,14 @@ class Same(unittest.TestCase):
         self.assertEqual({s.outcome for case in stored(form.answers()) for s in self.same(*case).solutions}, {"path", "loop", "bare"})
 
     def test_refusals(self):
-        self.assertEqual({self.same(*case).refused for case in stored(form.refusals())}, {None, *range(layout.CUT, layout.FULL + 1)})
+        self.assertEqual({self.same(*case).refused for case in stored(form.refusals())}, {None, *range(layout.CUT, layout.FULL + 1), layout.TWICE})
         status, out, said = book("list", "--plain", "--library", LIBRARY, "1-1", "1-2", given=bytes(7))
         self.assertEqual((status, out, said), (1, b"refused 1\n", ""))
 
     def test_damaged(self):
-        for k, (source, destination, data) in enumerate(generate.cases("answers damaged", 100)):
-            self.same(source, destination, generate.damaged(random.Random(f"answers damaged/{k}"), data))
+        seen = {self.same(source, destination, generate.damaged(random.Random(f"answers damaged/{k}"), data)).refused
+                for k, (source, destination, data) in enumerate(generate.cases("answers damaged", 100))}
+        self.assertLessEqual({None, layout.CUT, layout.LONG, layout.TWICE}, seen)
 
     @unittest.skipUnless(os.access(LIST, os.X_OK), "the program list is not built")
     def test_program(self):

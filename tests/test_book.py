@@ -29,7 +29,7 @@ sys.path[:0] = [str(ROOT / "tools"), str(HERE)]
 import generate
 import model
 from booktext import BookError, Trouble, as_json, dot, draw, forms, isd_as, layout, names, notes, printed, refusal, routes, text, times
-from booktext.layout import COUNTS, ENDS, ENTRY, HEAD, PEER, Entry, Peer, Segment
+from booktext.layout import COUNTS, ENDS, ENTRY, HEAD, PEER, Entry, Peer, Segment, head_place
 from booktext.picture import COLOURS, MOST, PAGE, Picture
 
 BOOK = ROOT / "tools" / "book"
@@ -116,8 +116,13 @@ def numbers(segments):
     return COUNTS.pack(non_cores=len(segments), bodies=len(bodies)) + heads + bodies
 
 
-def entry(peers=0, following=b""):
-    return ENTRY.pack(peer_count=peers) + following
+def entry(peers=0, following=b"", isd_as=0):
+    return ENTRY.pack(isd_as=isd_as, peer_count=peers) + following
+
+
+def over(*ases):
+    """Entry count and body of a segment over these ASes, without peers."""
+    return len(ases), b"".join(entry(isd_as=a) for a in ases)
 
 
 class Names(unittest.TestCase):
@@ -278,15 +283,37 @@ class TextErrors(unittest.TestCase):
         head = "core timestamp 1 id 0001\n"
         segments, entries, peers = layout.MAX_SEGMENTS, layout.MAX_ENTRIES, layout.MAX_PEERS
         self.wrong(head * (segments + 1), f"{segments + 1}: more than {segments} segments (refusal 4, Crowded)")
-        self.wrong(head + f"{ENTRY_LINE}\n" * (entries + 1), f"{entries + 2}: more than {entries} entries in segment 0 (refusal 5, Long)")
+        many = [f"{ENTRY_LINE}\n".replace("1-ff00:0:110", f"1-{k}") for k in range(entries + 1)]
+        self.wrong(head + "".join(many), f"{entries + 2}: more than {entries} entries in segment 0 (refusal 5, Long)")
+        self.wrong(head + "".join(many[:-1] + many[:1]), f"{entries + 2}: more than {entries} entries in segment 0 (refusal 5, Long)")
         self.wrong(head + f"{ENTRY_LINE}\n" + f"{PEER_LINE}\n" * (peers + 1),
                    f"{peers + 3}: more than {peers} peers at entry 0 of segment 0 (refusal 6, Peers)")
-        full = (head + (f"{ENTRY_LINE}\n" + f"{PEER_LINE}\n" * peers) * entries) * segments
+        full = (head + "".join(line + f"{PEER_LINE}\n" * peers for line in many[:-1])) * segments
         sizes, lines, line, size = {"core": HEAD.size, "entry": ENTRY.size, "peer": PEER.size}, full.splitlines(), 0, COUNTS.size
         while size <= layout.MAX_BOOK:
             size += sizes[lines[line].split()[0]]
             line += 1
         self.wrong(full, f"{line}: the book has {size} bytes up to here, at most {layout.MAX_BOOK} are taken (refusal 3, Oversize)")
+
+    def test_twice(self):
+        head, lines = "core timestamp 1 id 0001\n", {a: f"{ENTRY_LINE}\n".replace("1-ff00:0:110", a) for a in ("1-1", "1-2", "2-1")}
+
+        def of(*ases):
+            return head + "".join(map(lines.get, ases))
+
+        self.wrong(of("1-1", "1-1"), "3: the AS of entry 1 stands earlier in segment 0, at entry 0: 1-1 (refusal 11, Twice)")
+        self.wrong(of("1-1") + of("2-1", "1-1", "1-2", "1-1"), "7: the AS of entry 3 stands earlier in segment 1, at entry 1: 1-1 (refusal 11, Twice)")
+        # Another ISD, another segment, an equal one.
+        self.assertEqual([len(s.entries) for s in text.parse((of("1-1", "1-2", "2-1") * 2).encode())], [3, 3])
+        self.assertEqual([len(s.entries) for s in text.parse(of("1-1", "1-1").encode(), repeats=True)], [2])
+        # Every command takes it for an error, with the name of the AS where there is one.
+        with tempfile.TemporaryDirectory() as folder:
+            Path(folder, "names").write_text("1-1 the kiln\n")
+            named = "--names", Path(folder, "names")
+            for args, shown in ((("encode",), "1-1"), (("check",), "1-1"), (("check", *named), "the kiln (1-1)"), (("decode", *named), "the kiln (1-1)"),
+                                (("list", "--program", MODEL, *named, "1-1", "1-2"), "the kiln (1-1)")):
+                self.assertEqual(book(*args, given=of("1-1", "1-1").encode()), (1, b"", "book: <standard input>:3: the AS of entry 1 stands earlier in "
+                                                                                f"segment 0, at entry 0: {shown} (refusal 11, Twice)\n"))
 
     def test_command(self):
         for run in (book, alone):
@@ -328,6 +355,55 @@ class Refusals(unittest.TestCase):
                      "45 bytes left in the body for 2 peers of 23")
         self.refused(numbers([(1, entry() + b"\0")]), 7, f"segment 0 (non-core), byte {18 + size}", "1 byte left in the body after its 1 entry")
 
+    def test_twice(self):
+        size, other_isd = ENTRY.size, A ^ 3 << 48
+
+        def twice(number, earlier):
+            return f"its AS stands earlier in the segment, at entry {earlier}: {number}"
+
+        # Not only neighbours and not only the last entry; of several, the first that stands earlier.
+        for ases, at, earlier, shown in (((A, A), 1, 0, "1-ff00:0:111"), ((A, B, A), 2, 0, "1-ff00:0:111"), ((B, A, A), 2, 1, "1-ff00:0:111"),
+                                         ((A, B, A, C), 2, 0, "1-ff00:0:111"), ((C, A, B, B, A), 3, 2, "1-ff00:0:110"), ((A, A, A), 1, 0, "1-ff00:0:111"),
+                                         ((A, B, B, A), 2, 1, "1-ff00:0:110"), ((0, 0), 1, 0, "0-0"), ((*range(15), 7), 15, 7, "0-7"),
+                                         ((A, other_isd, A), 2, 0, "1-ff00:0:111")):
+            self.refused(numbers([over(*ases)]), 11, f"segment 0 (non-core), entry {at}, byte {18 + at * size}", twice(shown, earlier))
+            self.refused(numbers([over(A, B), (0, b""), over(*ases)]), 11, f"segment 2 (non-core), entry {at}, byte {38 + (2 + at) * size}",
+                         twice(shown, earlier))
+        # Behind peers, of a core.
+        behind = bytearray(numbers([over(A), (3, entry(2, bytes(2 * PEER.size), isd_as=A) + entry(1, bytes(PEER.size), isd_as=B) + entry(isd_as=A))]))
+        COUNTS.put(behind, 0, "cores", 2)
+        COUNTS.put(behind, 0, "non_cores", 0)
+        self.refused(bytes(behind), 11, f"segment 1 (core), entry 2, byte {28 + 3 * size + 3 * PEER.size}", twice("1-ff00:0:111", 0))
+        # The whole ISD-AS counts, and one segment alone.
+        for segments in ([over(A, other_isd)], [over(A, B), over(A, B)], [over(A), over(A)], [over(B, A), over(C, A), over(A, B)], [over(*range(16))]):
+            data = numbers(segments)
+            self.assertIsNone(refusal.verdict(data))
+            self.assertEqual(model.verdict(data), 0)
+        # A peer's AS is not passed.
+        self.assertIsNone(refusal.verdict(numbers([(2, entry(2, Peer(isd_as=A).bytes() * 2, isd_as=A) + entry(1, Peer(isd_as=A).bytes(), isd_as=B))])))
+
+    def test_order_of_twice(self):
+        repeats, most = over(A, B, A), layout.MAX_ENTRIES
+        many, left = (1, entry(5)), (1, entry() + b"\0")
+        for segments, number, position in (
+                # Before what is wrong with a later body, after what is wrong with an earlier one.
+                ([repeats, many], 11, 0), ([repeats, left], 11, 0), ([repeats, repeats], 11, 0), ([over(A), repeats, many], 11, 1),
+                ([many, repeats], 6, 0), ([left, repeats], 7, 0), ([over(A), left, repeats], 7, 1),
+                # After what is wrong with the same body, before or behind the entry that is there again.
+                ([(3, over(A, A)[1] + entry(5))], 6, 0), ([(3, entry(5, isd_as=A) + over(A, B)[1])], 6, 0), ([(2, over(A, A)[1] + b"\0")], 7, 0),
+                ([(3, over(A, A)[1] + bytes(ENTRY.size - 1))], 7, 0), ([(3, over(A, A)[1])], 7, 0), ([(2, entry(isd_as=A) + entry(1, isd_as=A))], 7, 0),
+                # After the heads.
+                ([repeats, (most + 1, b"")], 5, 1), ([over(*[A] * (most + 1))], 5, 0)):
+            data = numbers(segments)
+            found = refusal.verdict(data)
+            self.assertEqual((found.number, found.position), (number, position))
+            self.assertEqual(model.verdict(data), number)
+        # After the sum, and after what is wrong with the length.
+        uneven = bytearray(numbers([repeats, over(A)]))
+        HEAD.put(uneven, head_place(1), "body_length", ENTRY.size + 1)
+        for data, number in ((bytes(uneven), 7), (numbers([repeats]) + b"\0", 2), (numbers([repeats])[:-1], 1)):
+            self.assertEqual((refusal.verdict(data).number, model.verdict(data)), (number, number))
+
     def test_order(self):
         # Long at any head before the sum, the sum before any body, bodies by position.
         long = bytearray(numbers([(1, entry(5)), (layout.MAX_ENTRIES + 1, b"")]))
@@ -342,7 +418,7 @@ class Refusals(unittest.TestCase):
     def test_at_the_limits(self):
         self.assertIsNone(refusal.verdict(bytes(COUNTS.size)))
         self.assertIsNone(refusal.verdict(numbers([(0, b"")] * layout.MAX_SEGMENTS)))
-        self.assertIsNone(refusal.verdict(numbers([(layout.MAX_ENTRIES, entry() * layout.MAX_ENTRIES)])))
+        self.assertIsNone(refusal.verdict(numbers([over(*range(layout.MAX_ENTRIES))])))
         self.assertIsNone(refusal.verdict(numbers([(1, entry(layout.MAX_PEERS, bytes(layout.MAX_PEERS * PEER.size)))])))
 
     def test_damaged(self):
@@ -358,7 +434,7 @@ class Refusals(unittest.TestCase):
                 else:
                     self.assertEqual(layout.write(refusal.read(broken)), broken)
                 seen[found.number if found else 0] += 1
-        self.assertEqual(set(seen), {0, *range(layout.CUT, layout.MISFIT + 1)})
+        self.assertEqual(set(seen), {0, *range(layout.CUT, layout.MISFIT + 1), layout.TWICE})
 
     def test_command(self):
         most = layout.MAX_ENTRIES
@@ -368,6 +444,29 @@ class Refusals(unittest.TestCase):
         status, out, said = book("decode", given=bytes(7))
         self.assertEqual((status, out, said),
                          (1, b"", "book: <standard input>: refused 1 (Cut), at byte 7: the book has 7 bytes, its sizes alone take 8\n"))
+
+    def test_command_of_twice(self):
+        """Segment, both entries and the AS, by name where there is one; by every command that meets the refusal."""
+        data, words = numbers([over(C), over(B, A, C, A)]), "refused 11 (Twice), at segment 1 (non-core), entry 3, byte {}: " \
+            "its AS stands earlier in the segment, at entry 1: {}"
+        place = 28 + 4 * ENTRY.size
+        with tempfile.TemporaryDirectory() as folder:
+            Path(folder, "names").write_text("1-ff00:0:111 the kiln\n1-ff00:0:110 the core\n")
+            for named, shown in (((), "1-ff00:0:111"), (("--names", Path(folder, "names")), "the kiln (1-ff00:0:111)")):
+                said = words.format(place, shown)
+                self.assertEqual(book("check", *named, given=data), (1, f"{said}\n".encode(), ""))
+                self.assertEqual(book("decode", *named, given=data), (1, b"", f"book: <standard input>: {said}\n"))
+                ends = "--program", MODEL, "1-ff00:0:110", "1-ff00:0:111"
+                self.assertEqual(book("list", *named, *ends, given=data), (1, f"{said}\n".encode(), ""))
+                self.assertEqual(book("list", "--routes", *named, *ends, given=data), (1, f"{said}\n".encode(), ""))
+                self.assertEqual(book("draw", *named, *ends, "-o", Path(folder, "x.dot"), given=data), (1, b"", f"book: <standard input>: {said}\n"))
+                self.assertEqual(book("list", "--plain", *named, *ends, given=data), (1, b"refused 11\n", ""))
+                status, out, _ = book("check", "--json", *named, given=data)
+                self.assertEqual((status, json.loads(out)), (1, {"accepted": False, "refusal": {
+                    "number": 11, "word": "Twice", "position": 1, "kind": "non-core", "entry": 3, "byte": place, "earlier": 1, "isd_as": "1-ff00:0:111",
+                    "words": f"its AS stands earlier in the segment, at entry 1: {shown}"}}))
+                status, out, _ = book("list", "--json", *named, *ends, given=data)
+                self.assertEqual((status, json.loads(out)["refusal"]), (1, {"number": 11, "word": "Twice"}))
 
     def test_accepted(self):
         house = ROOT / "examples" / "house.book"
@@ -394,13 +493,12 @@ class Notes(unittest.TestCase):
     def test_nothing_to_say(self):
         self.noted(self.two(), [], now=1021600, between=(1 << 48 | 1, 1 << 48 | 2))
 
-    def test_equal_empty_repeated_peers(self):
-        above, leaf = entry_line("1-1", 0, 5), entry_line("1-1", 2, 0)
+    def test_equal_empty_peers(self):
+        above, leaf = entry_line("1-2", 0, 5), entry_line("1-1", 2, 0)
         peer = f"    {PEER_LINE}\n"
-        self.noted(f"core timestamp 1 id 0001\n{above}{peer}{entry_line('1-2', 2, 0)}" + 2 * f"non-core timestamp 1 id 0001\n{above}{leaf}{peer}" +
+        self.noted(f"core timestamp 1 id 0001\n{above}{peer}{entry_line('1-3', 2, 0)}" + 2 * f"non-core timestamp 1 id 0001\n{above}{leaf}{peer}" +
                    "non-core timestamp 1 id 0001\n", [
                        ("core-peers", "segment 0, entry 0: peers of a core segment yield no edges"),
-                       ("repeated", "segment 1, entry 1: the kiln (1-1) stands earlier in the segment"),
                        ("one-sided", "segment 1, entry 1, peer 0: no segment has the other end of this link, 1-ff00:0:112#2 to the kiln (1-1#9)"),
                        ("equal", "segment 2: equal to segment 1: they count once, as segment 1"),
                        ("empty", "segment 3: no entries: it yields no edges")], names={1 << 48 | 1: "the kiln"})
@@ -554,6 +652,8 @@ class Json(unittest.TestCase):
             return {"segments": [{"kind": "core", "timestamp": 1, "id": "0001", "entries": [{k: v for k, v in entry.items() if v is not ...}]}]}
 
         self.assertEqual(len(as_json.parse(json.dumps(having()).encode())), 1)
+        repeating = having()
+        repeating["segments"][0]["entries"] *= 2
         here, peers, segments = "segments[0].entries[0]", layout.MAX_PEERS, layout.MAX_SEGMENTS
         for made, message in (("{", "Expecting property name"), (b'{"\xff": 1}', "'utf-8' codec can't decode"),
                               ('{"a": 1, "a": 2}', "'a' stands twice in an object"), ({}, "the document lacks segments"),
@@ -566,6 +666,7 @@ class Json(unittest.TestCase):
                               (having(mac="0102"), f"{here}: mac is written in 12 hex digits"), (having(peers=None), f"{here}.peers is no array"),
                               (having(isd_as=281474976710657), f"{here}: isd_as is a string, not 281474976710657"),
                               (having(peers=[peer] * (peers + 1)), f"{here}.peers[{peers}]: more than {peers} peers"),
+                              (repeating, "segments[0].entries[1]: the AS of entry 1 stands earlier in segment 0, at entry 0: 1-1 (refusal 11, Twice)"),
                               ({"segments": having()["segments"] * (segments + 1)}, f"segments[{segments}]: more than {segments} segments"),
                               ('{"a":' + "[" * 100000, "maximum recursion depth exceeded")):
             self.wrong(made, message)
@@ -575,10 +676,11 @@ class Json(unittest.TestCase):
         most = layout.MAX_ENTRIES
         status, out, said = book("check", "--json", given=numbers([(1, entry()), (most + 1, entry())]))
         self.assertEqual((status, json.loads(out), said), (1, {"accepted": False, "refusal": {
-            "number": 5, "word": "Long", "position": 1, "kind": "non-core", "entry": None, "byte": 18,
+            "number": 5, "word": "Long", "position": 1, "kind": "non-core", "entry": None, "byte": 18, "earlier": None, "isd_as": None,
             "words": f"its head counts {most + 1} entries, at most {most} are taken"}}, ""))
         status, out, said = book("check", "--json", given=bytes(7))
         self.assertEqual(json.loads(out)["refusal"], {"number": 1, "word": "Cut", "position": None, "kind": None, "entry": None, "byte": 7,
+                                                      "earlier": None, "isd_as": None,
                                                       "words": "the book has 7 bytes, its sizes alone take 8"})
         given = f"core timestamp 1 id 0002\n{ENTRY_LINE}\n{PEER_LINE}\n".encode()
         status, out, said = book("check", "--json", "--now", "0", "--ends", "1-ff00:0:110", "1-3", given=given)
@@ -1189,6 +1291,16 @@ class Examples(unittest.TestCase):
         self.assertEqual((ROOT / "examples" / "worked.book").read_bytes(), WORKED_INPUT[ENDS.size:])
         self.assertEqual((ROOT / "examples" / "worked.list").read_text(), WORKED_LIST)
 
+    def test_twice(self):
+        """The book that is refused: what check says of its bytes, and which line of its text is wrong."""
+        words, data, checked = (ROOT / "examples" / f"twice.{kind}" for kind in ("txt", "book", "check"))
+        self.assertEqual(layout.write(text.parse(words.read_bytes(), repeats=True)), data.read_bytes())
+        self.assertEqual(book("check", "--names", ROOT / "examples" / "house.names", data), (1, checked.read_bytes(), ""))
+        again = [number for number, line in enumerate(words.read_text().splitlines(), 1) if "entry 1-ff00:0:121 " in line]
+        self.assertEqual(book("encode", words), (1, b"", f"book: {words}:{again[1]}: the AS of entry 3 stands earlier in segment 2, at entry 1: 1-ff00:0:121 "
+                                                         "(refusal 11, Twice)\n"))
+        self.assertIn(checked.read_text(), Manual.PAGE)
+
     def test_picture(self):
         words = html.unescape((ROOT / "examples" / "house.svg").read_text()).replace("\xa0", " ")
         for s in printed.parse((ROOT / "examples" / "house.list").read_text()):
@@ -1236,8 +1348,8 @@ class Manual(unittest.TestCase):
     def test_numbers(self):
         for words in (f"Where more than {PAGE} ASes are drawn", f"Without it, the first {MOST}.", f"at most {len(COLOURS)}.", times.written(2**32 - 1)):
             self.assertIn(words, self.PAGE)
-        for number in range(layout.CUT, layout.FULL + 1):
-            self.assertIn(layout.WORDS[number], (ROOT / "man" / "list.1").read_text(), number)
+        for number in (*range(layout.CUT, layout.FULL + 1), layout.TWICE):
+            self.assertIn(f"\n{number} {layout.WORDS[number]}\n", (ROOT / "man" / "list.1").read_text(), number)
         self.assertIn(".SH EXIT STATUS\nAlways 0,", (ROOT / "man" / "list.1").read_text())
         exits = self.PAGE[self.PAGE.index(".SH EXIT STATUS"):self.PAGE.index(".SH ENVIRONMENT")]
         self.assertEqual(re.findall(r"\.B (\d+)\n", exits), ["0", str(BookError.status), str(Trouble.status), str(tool.INTERRUPTED)])
@@ -1249,8 +1361,7 @@ class Manual(unittest.TestCase):
         self.assertEqual(json.loads(book("decode", "--json", given=data)[1]), segments)
         found = json.loads(book("check", "--json", "--now", "2026-01-01T12:00:01", ROOT / "examples" / "house.book")[1])
         self.assertEqual({**found, "notes": [n for n in found["notes"] if n["position"] == 0]}, accepted)
-        found = json.loads(book("check", "--json", given=numbers([(1, entry()), (layout.MAX_ENTRIES + 1, entry())]))[1])
-        self.assertEqual(found, refused)
+        self.assertEqual(json.loads(book("check", "--json", ROOT / "examples" / "twice.book")[1]), refused)
 
     def test_notes(self):
         section = self.PAGE[self.PAGE.index(".SH NOTES"):self.PAGE.index(".SH EXIT STATUS")]

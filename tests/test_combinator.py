@@ -148,11 +148,12 @@ class Stored(unittest.TestCase):
                     self.assertEqual(refused.word, layout.WORDS[number])
                 self.assertEqual(found, number)
             seen.add(number)
-        self.assertEqual(seen, {0, *range(layout.CUT, layout.STRANGER + 1)})
+        self.assertEqual(seen, {0, *layout.WORDS})
 
     def test_every_refusal_has_a_meaning(self):
         self.assertEqual(set(combinator.MEANINGS), set(layout.WORDS))
         self.assertEqual(str(Refusal(layout.FULL)), "refused 8 Full: there are more solutions than slots")
+        self.assertEqual(str(Refusal(11)), "refused 11 Twice: an entry's AS stands earlier in the same segment")
         self.assertEqual((Refusal(99).word, str(Refusal(99))), ("unknown", "refused 99 unknown"))
         self.assertEqual(pickle.loads(pickle.dumps(Refusal(layout.FULL))).number, layout.FULL)
 
@@ -291,7 +292,7 @@ class Books(unittest.TestCase):
         self.assertEqual(len(combinator.list(1, 2, writer.finish())), 0)
 
     def test_oversize(self):
-        full = [(self.ENTRY, [self.PEER] * layout.MAX_PEERS)] * layout.MAX_ENTRIES
+        full = [(self.ENTRY._replace(local=k), [self.PEER] * layout.MAX_PEERS) for k in range(layout.MAX_ENTRIES)]
         one = layout.HEAD.size + layout.MAX_ENTRIES * (layout.ENTRY.size + layout.MAX_PEERS * layout.PEER.size)
         writer = BookWriter()
         for _ in range((layout.MAX_BOOK - layout.COUNTS.size) // one):
@@ -299,7 +300,55 @@ class Books(unittest.TestCase):
         before = writer.finish()
         self.refused(layout.OVERSIZE, writer.non_core, 1, 2, full)
         self.assertEqual(writer.finish(), before)
-        self.assertEqual(len(combinator.list(7, 9, before)), 0)
+        self.assertEqual(len(combinator.list(70, 90, before)), 0)
+
+    def over(self, *ases):
+        return [(self.ENTRY._replace(local=a), []) for a in ases]
+
+    def test_twice(self):
+        """A segment that passes an AS twice is refused by the writer and, where others wrote it, by every call."""
+        a, b, c, other_isd = 0x0001FF0000000110, 0x0001FF0000000111, 9, 0x0002FF0000000110
+        whole = range(1, layout.MAX_ENTRIES + 1)
+        for ases in ((a, a), (a, b, a), (c, a, a), (c, a, b, a), (a, b, a, c), (0, 0), (a, other_isd, a), (*whole[:-1], whole[0])):
+            for core in (False, True):
+                writer = BookWriter()
+                write = writer.core if core else writer.non_core
+                write(1, 2, self.over(a, b))
+                before = writer.finish()
+                self.refused(layout.TWICE, write, 3, 4, self.over(*ases))
+                self.assertEqual(writer.finish(), before)
+                write(3, 4, self.over(b, a))
+                # The bytes laid out with no test of them.
+                made = [layout.Segment(entries=[layout.Entry(isd_as=x) for x in given]) for given in ((a, b), ases)]
+                book = layout.book(made, []) if core else layout.book([], made)
+                for work in (combinator.list, combinator.routes):
+                    self.refused(layout.TWICE, work, a, b, book)
+                self.refused(layout.TWICE, combinator.assemble, a, b, book, b"", 0)
+        # The same AS number in another ISD, one AS in two segments and two equal segments are none of it.
+        writer = BookWriter()
+        for ases in ((a, other_isd), (a, b), (a, b), (a,), whole):
+            writer.non_core(1, 2, self.over(*ases))
+        self.assertGreater(len(combinator.list(a, b, writer.finish())), 0)
+
+    def test_before_twice(self):
+        """Of the refusals of one segment, the one that the library tests first."""
+        writer = BookWriter()
+        again = self.over(1, 1)
+        self.refused(layout.PEERS, writer.core, 1, 2, [again[0], (self.ENTRY, [self.PEER] * (layout.MAX_PEERS + 1))])
+        self.refused(layout.LONG, writer.core, 1, 2, self.over(*[1] * (layout.MAX_ENTRIES + 1)))
+        full = [(e, [self.PEER] * layout.MAX_PEERS) for e, _ in self.over(*range(layout.MAX_ENTRIES))]
+        while True:
+            try:
+                writer.core(1, 2, full)
+            except Refusal as refused:
+                self.assertEqual(refused.number, layout.OVERSIZE)
+                break
+        self.refused(layout.TWICE, writer.core, 1, 2, again)
+        self.refused(layout.OVERSIZE, writer.core, 1, 2, [full[0], *full[:-1]])
+        writer = BookWriter()
+        for _ in range(layout.MAX_SEGMENTS):
+            writer.core(1, 2, [])
+        self.refused(layout.CROWDED, writer.core, 1, 2, again)
 
     def test_values(self):
         hop = self.ENTRY.hop

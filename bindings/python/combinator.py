@@ -85,6 +85,7 @@ MEANINGS: Dict[int, str] = {
     layout.FULL: "there are more solutions than slots",
     layout.SMALL: f"the output is under {PATH_SIZE} bytes",
     layout.STRANGER: "no solution of this book, source and destination",
+    layout.TWICE: "an entry's AS stands earlier in the same segment",
 }
 
 
@@ -521,5 +522,7 @@ class BookWriter:
         size = self._size + layout.HEAD.size + len(segment.body())
         if size > MAX_BOOK:
             raise Refusal(layout.OVERSIZE)
+        if len({e.isd_as for e in made}) < len(made):
+            raise Refusal(layout.TWICE)
         segments.append(segment)
         self._size = size

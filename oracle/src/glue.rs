@@ -42,7 +42,7 @@ pub fn hold(cases: Vec<&[u8]>) -> Held {
 
 fn hold_one(case: &str, source: IsdAsn, destination: IsdAsn, bytes: &[u8], held: &mut Held) {
     // A refused book has no segments.
-    let Ok(book) = book::decode::<false>(bytes, false) else {
+    let Ok(book) = book::decode::<false>(bytes, false, false) else {
         return;
     };
     let (cores, non_cores) = book.segments.split_at(book.cores);

@@ -117,7 +117,7 @@ fn print_path(out: &mut String, path: &ScionPath, flags: Flags) -> Vec<u8> {
 
 /// What `combine` answers, after the solutions.
 fn print_combined(out: &mut String, source: IsdAsn, destination: IsdAsn, bytes: &[u8], flags: Flags) {
-    let book = book::decode::<false>(bytes, false).unwrap_or_else(|_| panic!("it was decoded before"));
+    let book = book::decode::<false>(bytes, false, flags.repeats).unwrap_or_else(|_| panic!("it was decoded before"));
     match combined(source, destination, &book) {
         None => out.push_str("combined panic\n"),
         Some(paths) => {
@@ -135,6 +135,8 @@ struct Flags {
     no_wrapper: bool,
     /// Print a refusal's number (of the specification's table; the Rust has none).
     numbers: bool,
+    /// Answer books too in which a segment passes an AS twice.
+    repeats: bool,
     /// Print what `combine` answers too, and of each path the fingerprint by which it tells duplicates.
     combine: bool,
 }
@@ -144,7 +146,7 @@ fn block(out: &mut String, case: &[u8], flags: Flags) {
     let decoded = match split(case) {
         None => Err(book::CUT),
         Some((source, destination, bytes)) => {
-            book::decode::<true>(bytes, true).map(|book| (source, destination, bytes, book))
+            book::decode::<true>(bytes, true, flags.repeats).map(|book| (source, destination, bytes, book))
         }
     };
     let (source, destination, bytes, book) = match decoded {
@@ -244,7 +246,7 @@ fn bench_one(case: &[u8], t: &mut Times) {
         return;
     };
     let t0 = Instant::now();
-    let Ok(book) = book::decode::<false>(bytes, false) else {
+    let Ok(book) = book::decode::<false>(bytes, false, false) else {
         return;
     };
     let t1 = Instant::now();
@@ -277,7 +279,7 @@ fn bench_one(case: &[u8], t: &mut Times) {
     std::hint::black_box(sum);
     t.fingerprints += t3.elapsed().as_nanos();
     // `combine` whole, from segments that nothing is known of yet.
-    let Ok(book) = book::decode::<false>(bytes, false) else {
+    let Ok(book) = book::decode::<false>(bytes, false, false) else {
         return;
     };
     let t4 = Instant::now();
@@ -350,6 +352,7 @@ pub fn main() {
         no_wrapper: flag("--no-wrapper"),
         numbers: flag("--numbers"),
         combine: flag("--combine"),
+        repeats: flag("--repeats"),
     };
     let args: Vec<&str> = args.iter().map(|s| s.as_str()).collect();
     let stdin = || {
@@ -395,8 +398,8 @@ pub fn main() {
         ["--given"] => print!("{}", include_str!(concat!(env!("OUT_DIR"), "/given.txt"))),
         _ => {
             eprintln!(
-                "oracle [--no-wrapper] [--numbers] [--combine] < CASE\n\
-                 oracle --batch [FILE] [--no-wrapper] [--numbers] [--combine]\n\
+                "oracle [--no-wrapper] [--numbers] [--combine] [--repeats] < CASE\n\
+                 oracle --batch [FILE] [--no-wrapper] [--numbers] [--combine] [--repeats]\n\
                  oracle --bench FILE N [--each]\n\
                  oracle --glue FILE, with the feature glue\n\
                  oracle --given"

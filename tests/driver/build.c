@@ -187,10 +187,10 @@ size_t build_links(uint8_t *out, unsigned half)
     unsigned i, j, p, n = 0;
     build_start(&b);
     for (i = 0; i < 2 * half; i++) {
-        uint64_t leaf = i < half ? AS_SOURCE : AS_DESTINATION, local = i < half ? x : y, far = i < half ? y : x;
+        uint64_t leaf = i < half ? AS_SOURCE : AS_DESTINATION, local = i < half ? x : y, far = (i < half ? y : x) + COMBINATOR_MAX_ENTRIES - 2;
         build_segment(&b, 0, 1000000, i);
         for (j = 0; j < COMBINATOR_MAX_ENTRIES; j++) {
-            build_entry(&b, j + 1 == COMBINATOR_MAX_ENTRIES ? leaf : local, 1, 1, 0x010203040506 + COMBINATOR_MAX_ENTRIES * i + j);
+            build_entry(&b, j + 1 == COMBINATOR_MAX_ENTRIES ? leaf : local + j, 1, 1, 0x010203040506 + COMBINATOR_MAX_ENTRIES * i + j);
             for (p = 0; p < COMBINATOR_MAX_PEERS; p++, n++) {
                 if (i < half)
                     build_peer(&b, far, 7, 1 + n, 1, 0x0a0b0c0d0e0f);
@@ -298,6 +298,20 @@ size_t build_colliding(uint8_t *out, enum colliding how)
             full_segment(kind == 0, kind == 1 ? AS_X : AS_Y, kind == 0 ? AS_X : kind == 1 ? AS_SOURCE : AS_DESTINATION, 1000000, i, 0x8000, 0);
             (how == FEW_ASES ? step_ases : step_ids)(kind == 2, (int)i, d);
         }
+    return build_book(&b, out);
+}
+
+size_t build_one_ending(uint8_t *out, unsigned segments, int twice)
+{
+    unsigned i, j;
+    build_start(&b);
+    for (i = 0; i < segments; i++) {
+        build_segment(&b, 0, 1000000, i);
+        for (j = 0; j < COMBINATOR_MAX_ENTRIES; j++) {
+            int again = twice && i + 1 == segments && j + 1 == COMBINATOR_MAX_ENTRIES;
+            build_entry(&b, AS_DESTINATION + ((uint64_t)(again ? 0 : j) << 32), 1, 1, i);
+        }
+    }
     return build_book(&b, out);
 }
 

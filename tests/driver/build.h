@@ -63,8 +63,8 @@ size_t build_few(uint8_t *out, unsigned segments, unsigned entries, unsigned pee
  * full. */
 size_t build_worst(uint8_t *out, unsigned half, unsigned entries, unsigned peers);
 
-/* `half` full segments to either end, between two ASes, where no link has its other side: every peer of the one half is
- * held against every peer of the other, and there is no solution. */
+/* `half` full segments to either end, where no link has its other side: every peer of the one half is held against the peers of the last
+ * entry above the leaf of every segment of the other, and there is no solution. */
 size_t build_links(uint8_t *out, unsigned half);
 
 /* As many chains as there are slots, each over three segments of every entry and so of 90 interfaces, with `peers` peers to an entry
@@ -77,6 +77,10 @@ size_t build_long(uint8_t *out, unsigned peers, int copies);
 #define COLLIDING 128
 enum colliding { FEW_IDS, FEW_ASES, MANY_IDS };
 size_t build_colliding(uint8_t *out, enum colliding how);
+
+/* Segments of every entry, whose ASes all end in the same bits: each AS is held against those before it in its segment, if only to see that it
+ * stands there once. With `twice` the last segment has one twice, at its two ends. */
+size_t build_one_ending(uint8_t *out, unsigned segments, int twice);
 
 /* Segments of one timestamp and id whose bodies differ in the last MAC alone: every body is held against every other. */
 size_t build_alike(uint8_t *out, unsigned segments);

@@ -1,8 +1,9 @@
 /* fuzz SEED COUNT|SECONDSs [FIRST] [--undefined]
  *
- * First a fixed sweep: every length near each boundary, every output length near a slot's end, every byte of a record
- * changed to every value, the dearest books. Then COUNT turns, or as many as SECONDS allow. A turn draws its choices from SEED and its own
- * number alone, so that FIRST (with COUNT 1) runs one turn again.
+ * First a fixed sweep: every length near each boundary, an AS twice at every two entries, every output length near a slot's end, every byte
+ * of a record changed to every value, the dearest books. Then COUNT turns, or as many as SECONDS allow. A turn draws its choices from SEED and
+ * its own number alone, so that FIRST (with COUNT 1) runs one turn again. Of the listings of either a part must be refused for an AS that stands
+ * twice in a segment, and a part must be accepted.
  *
  * Every call is held to the model in all of its output and in its answer. Its buffers have guard bytes on both sides and
  * stand against a page that cannot be touched, at the one end or the other, or in a block of the heap of their exact
@@ -136,6 +137,7 @@ enum kind { LISTING, ROUTES, ASSEMBLY, KINDS };
 static const char *const call_name[KINDS] = {"listing", "routes", "assembly"};
 static struct longest longest[KINDS];
 static uint64_t refused[COMBINATOR_LAST_REFUSAL + 1], routes, paths, loops, bares;
+static uint64_t listings, accepted, twice; /* of the sweep, then of the turns */
 
 static void print_bytes(const char *name, const uint8_t *p, size_t n)
 {
@@ -272,12 +274,17 @@ static const uint8_t *check(enum kind kind, size_t out_len, uint32_t *answered)
     }
     if (COMBINATOR_IS_REFUSAL(answer))
         refused[COMBINATOR_REFUSAL(answer)]++;
-    else if (kind == ROUTES) {
+    else if (kind == ROUTES)
         routes += answer;
-    } else if (kind == ASSEMBLY) {
+    else if (kind == ASSEMBLY) {
         paths += answer == COMBINATOR_PATH;
         loops += answer == COMBINATOR_LOOP;
         bares += answer == COMBINATOR_BARE;
+    }
+    if (kind == LISTING) {
+        listings++;
+        accepted += !COMBINATOR_IS_REFUSAL(answer) || answer == COMBINATOR_FULL;
+        twice += answer == COMBINATOR_TWICE;
     }
     if (kind == ASSEMBLY && answer == COMBINATOR_PATH) {
         struct input c;
@@ -324,19 +331,58 @@ struct link {
     unsigned interface, other_interface;
 };
 
-/* A book of few ASes and few interfaces, so that segments join, repeat an AS, and have equal ends. */
-static void draw_book(void)
-{
-    uint64_t as[10];
-    struct link link[8];
-    uint64_t leaf[COMBINATOR_MAX_SEGMENTS];
-    unsigned ases = 2 + pick(9), links = pick(9), interfaces = 1 + pick(3), zero = 1 + pick(8), leaves = 0, segments, cores, i, j, k, p;
-    int large = one_in(40), tidy = one_in(2);
+#define FEW_AS 10
+#define ALL_AS COMBINATOR_MAX_ENTRIES
 
-    for (i = 0; i < ases; i++)
-        as[i] = AS_DESTINATION + i;
+/* Different ASes, near to each other: they differ in the last bits alone as a rule; in bits before those, in the ISD, or in one bit each. */
+static void draw_ases(uint64_t as[ALL_AS])
+{
+    unsigned how = pick(10), turned = pick(64), i;
+    for (i = 0; i < ALL_AS; i++)
+        switch (how) {
+        case 0:
+            as[i] = AS_DESTINATION + ((uint64_t)i << 6);
+            break;
+        case 1:
+            as[i] = AS_DESTINATION + ((uint64_t)i << 48);
+            break;
+        case 2:
+            as[i] = AS_DESTINATION ^ (i ? UINT64_C(1) << (turned + i) % 64 : 0);
+            break;
+        case 3:
+            as[i] = (draw() << 6) + (AS_DESTINATION & 63);
+            break;
+        default:
+            as[i] = AS_DESTINATION + i;
+        }
     if (one_in(8))
         as[0] = 0, as[1] = UINT64_MAX;
+}
+
+/* The ASes of a segment: each once, of the first `few` or as many more as there are entries; or with `repeats` any of the first. */
+static void draw_path(uint64_t path[COMBINATOR_MAX_ENTRIES], unsigned entries, const uint64_t as[ALL_AS], unsigned few, int repeats)
+{
+    uint64_t left[ALL_AS];
+    unsigned n = entries > few ? entries : few, i, k;
+    memcpy(left, as, sizeof left);
+    for (i = 0; i < entries; i++) {
+        k = pick(repeats ? few : n - i);
+        path[i] = left[k];
+        if (!repeats)
+            left[k] = left[n - i - 1];
+    }
+}
+
+/* A book of few ASes and few interfaces, so that segments join and have equal ends; with `repeats` most have a segment with an AS twice. */
+static void draw_book(int repeats)
+{
+    uint64_t as[ALL_AS], path[COMBINATOR_MAX_ENTRIES];
+    struct link link[8];
+    uint64_t leaf[COMBINATOR_MAX_SEGMENTS];
+    unsigned ases = 2 + pick(FEW_AS - 1), links = pick(9), interfaces = 1 + pick(3), zero = 1 + pick(8), leaves = 0, segments, cores, i, j, k, p;
+    int large = one_in(40), tidy = one_in(2);
+
+    draw_ases(as);
     for (i = 0; i < links; i++) {
         link[i].as = as[pick(ases)];
         link[i].other = as[pick(ases)];
@@ -361,10 +407,11 @@ static void draw_book(void)
             continue;
         }
         build_segment(&b, i < cores, one_in(6) ? (uint32_t)draw() : one_in(6) ? UINT32_MAX - pick(400) : 1000000, (unsigned)draw() & UINT16_MAX);
+        draw_path(path, entries, as, ases, repeats);
         for (j = 0; j < entries; j++) {
             unsigned ingress = (tidy && j == 0) || one_in(zero) ? 0 : 1 + pick(interfaces);
             unsigned egress = (tidy && j + 1 == entries) || one_in(zero) ? 0 : 1 + pick(interfaces);
-            build_entry(&b, as[pick(ases)], ingress, egress, draw());
+            build_entry(&b, path[j], ingress, egress, draw());
             if (one_in(5))
                 put32(b.entry + COMBINATOR_ENTRY_MTU, one_in(2) ? UINT16_MAX + 1 + pick(3) : (uint32_t)draw());
             put16(b.entry + COMBINATOR_ENTRY_INGRESS_MTU, one_in(3) ? 0 : one_in(4) ? (unsigned)draw() : 1280 + pick(200));
@@ -441,9 +488,12 @@ static void draw_reissued(void)
         if (core && one_in(3))
             continue;
         build_segment(&b, core, some_time(), pick(4));
-        build_entry(&b, up || (core && one_in(4)) ? x : y, 0, 1 + pick(2), draw());
-        if (!one_in(4))
-            build_entry(&b, middle[kind % 3], 1 + pick(2), 1 + pick(2), draw());
+        /* A core of one entry leads from an AS to itself. */
+        if (!core || (x != y && !one_in(4))) {
+            build_entry(&b, up ? x : y, 0, 1 + pick(2), draw());
+            if (!one_in(4))
+                build_entry(&b, middle[kind % 3], 1 + pick(2), 1 + pick(2), draw());
+        }
         build_entry(&b, leaf, 1 + pick(2), 0, draw());
         vary_copy(middle[0]);
         for (copies = pick(5); copies > 0; copies--) {
@@ -467,6 +517,85 @@ static unsigned segment_count(void)
 static int heads_fit(unsigned segments)
 {
     return segments <= COMBINATOR_MAX_SEGMENTS && now.book_len >= head_place(segments);
+}
+
+/* An entry of a book whose bodies are whole. */
+static uint8_t *entry_at(unsigned position, unsigned index)
+{
+    uint8_t *at = now.book + head_place(segment_count());
+    unsigned i;
+    for (i = 0; i < position; i++)
+        at += number16(now.book + head_place(i) + COMBINATOR_HEAD_BODY_LENGTH);
+    for (i = 0; i < index; i++)
+        at += COMBINATOR_ENTRY_SIZE + COMBINATOR_PEER_SIZE * at[COMBINATOR_ENTRY_PEER_COUNT];
+    return at;
+}
+
+static unsigned entry_count(unsigned position)
+{
+    return number16(now.book + head_place(position) + COMBINATOR_HEAD_ENTRY_COUNT);
+}
+
+/* Two entries of a segment of a whole book get one AS, at its ends, beside each other or anywhere; or ASes that are almost the same: of another
+ * ISD, another bit, the same last bits alone, or all but the last bits. */
+static void repeat_as(void)
+{
+    unsigned segments = segment_count(), position = 0, n = 0, i, j, tries;
+    uint64_t as;
+    for (tries = 0; segments && n < 2 && tries < 8; tries++) {
+        position = pick(segments);
+        n = entry_count(position);
+    }
+    if (n < 2)
+        return;
+    j = one_in(3) ? n - 1 : 1 + pick(n - 1);
+    i = one_in(3) ? 0 : one_in(2) ? j - 1 : pick(j);
+    as = number64(entry_at(position, i) + COMBINATOR_ENTRY_AS);
+    switch (pick(9)) {
+    case 0:
+        as ^= UINT64_C(1) << (48 + pick(16));
+        break;
+    case 1:
+        as ^= UINT64_C(1) << pick(64);
+        break;
+    case 2:
+        as = (draw() << 6) + (as & 63);
+        break;
+    case 3:
+        as ^= 1 + pick(63);
+        break;
+    default:
+        break;
+    }
+    put64(entry_at(position, j) + COMBINATOR_ENTRY_AS, as);
+}
+
+/* A body of a whole book, or its head: too many peers, an entry too many or too few, a length that is off, too many entries. */
+static void damage_body(void)
+{
+    unsigned segments = segment_count(), position, n;
+    uint8_t *head;
+    if (!segments)
+        return;
+    position = pick(segments);
+    head = now.book + head_place(position);
+    n = entry_count(position);
+    switch (pick(6)) {
+    case 0:
+    case 1:
+        if (n)
+            entry_at(position, pick(n))[COMBINATOR_ENTRY_PEER_COUNT] = (uint8_t)(COMBINATOR_MAX_PEERS + 1 + pick(3));
+        break;
+    case 2:
+    case 3:
+        put16(head + COMBINATOR_HEAD_ENTRY_COUNT, one_in(2) && n ? n - 1 : n < COMBINATOR_MAX_ENTRIES ? n + 1 : n - 1);
+        break;
+    case 4:
+        put16(head + COMBINATOR_HEAD_BODY_LENGTH, number16(head + COMBINATOR_HEAD_BODY_LENGTH) + 1);
+        break;
+    default:
+        put16(head + COMBINATOR_HEAD_ENTRY_COUNT, COMBINATOR_MAX_ENTRIES + 1 + pick(3));
+    }
 }
 
 static void damage_bytes(void)
@@ -641,7 +770,7 @@ static void turn(uint64_t seed, uint64_t number_of_turn)
     state = seed * UINT64_C(0xd1342543de82ef95) + number_of_turn;
     draw();
     now.turn = number_of_turn;
-    switch (pick(12)) {
+    switch (pick(14)) {
     case 0:
         now.kind = "random bytes";
         random_bytes();
@@ -652,7 +781,7 @@ static void turn(uint64_t seed, uint64_t number_of_turn)
     case 3:
     case 4:
         now.kind = "a book";
-        draw_book();
+        draw_book(one_in(8));
         use_book(16);
         break;
     case 9:
@@ -661,33 +790,44 @@ static void turn(uint64_t seed, uint64_t number_of_turn)
         draw_reissued();
         use_book(4);
         break;
+    case 12:
+    case 13:
+        now.kind = "an AS twice";
+        draw_book(0);
+        repeat_as();
+        if (one_in(4))
+            repeat_as();
+        if (one_in(3))
+            damage_body();
+        use_book(1);
+        break;
     case 5:
         now.kind = "bytes changed";
-        draw_book();
+        draw_book(one_in(8));
         damage_bytes();
         use_book(2);
         break;
     case 6:
         now.kind = "another length";
-        draw_book();
+        draw_book(one_in(8));
         damage_length();
         use_book(1);
         break;
     case 7:
         now.kind = "counts changed";
-        draw_book();
+        draw_book(one_in(8));
         damage_counts();
         use_book(1);
         break;
     case 8:
         now.kind = "bodies cut elsewhere";
-        draw_book();
+        draw_book(one_in(8));
         damage_split();
         use_book(1);
         break;
     default:
         now.kind = "several kinds of damage";
-        draw_book();
+        draw_book(one_in(8));
         if (one_in(2))
             damage_bytes();
         if (one_in(2))
@@ -764,7 +904,7 @@ static void sweep_bodies(void)
                     build_start(&b);
                     build_segment(&b, 0, 1000000, 1);
                     for (k = 0; k < entries; k++)
-                        build_entry(&b, k + 1 == entries ? AS_SOURCE : AS_DESTINATION, 1, 2, k);
+                        build_entry(&b, k + 1 == entries ? AS_SOURCE : AS_DESTINATION + (k << 8), 1, 2, k);
                     for (k = 0; k < there; k++)
                         build_peer(&b, AS_DESTINATION, 1, 1, 1, k);
                     if (entries)
@@ -796,7 +936,7 @@ static void sweep_bodies(void)
         left = COMBINATOR_MAX_BOOK - head_place(entries + 1) - b.length;
         build_segment(&b, 0, 1000000, entries);
         for (said = 0; said < left / COMBINATOR_ENTRY_SIZE + 1 && said < COMBINATOR_MAX_ENTRIES + k % 2; said++) {
-            build_entry(&b, said ? AS_SOURCE : AS_DESTINATION, 1, 2, said);
+            build_entry(&b, said < 2 ? AS_DESTINATION + said : AS_DESTINATION + (said << 8), 1, 2, said);
             for (there = 0; there < COMBINATOR_MAX_PEERS; there++) {
                 if (head_place(entries + 1) + b.length + COMBINATOR_PEER_SIZE + COMBINATOR_ENTRY_SIZE >= COMBINATOR_MAX_BOOK + k)
                     break;
@@ -806,6 +946,78 @@ static void sweep_bodies(void)
         now.book_len = build_book(&b, now.book);
         check_list(COMBINATOR_LIST_SIZE);
     }
+}
+
+/* The AS of entry i of a segment of the sweep: of other last bits than the others', of other bits but those, of another ISD, or none of these. */
+static uint64_t sweep_as(unsigned how, unsigned i)
+{
+    switch (how) {
+    case 0:
+        return AS_DESTINATION + i;
+    case 1:
+        return AS_DESTINATION + ((uint64_t)i << 6);
+    case 2:
+        return AS_DESTINATION + ((uint64_t)i << 48);
+    default:
+        return AS_DESTINATION ^ (UINT64_C(0x9e3779b97f4a7c15) * i << 3);
+    }
+}
+
+/* Every two of every number of entries: with one AS, and with ASes that differ in a bit. */
+static void sweep_twice(void)
+{
+    unsigned how, core, n, i, j, k, near, bit = 0;
+    now.kind = "an AS twice";
+    for (how = 0; how < 4; how++)
+        for (core = 0; core < 2; core++)
+            for (n = 2; n <= COMBINATOR_MAX_ENTRIES; n++)
+                for (j = 1; j < n; j++)
+                    for (i = 0; i < j; i++)
+                        for (near = 0; near < 2; near++) {
+                            build_start(&b);
+                            build_segment(&b, (int)core, 1000000, 1);
+                            for (k = 0; k < n; k++) {
+                                build_entry(&b, k == j ? sweep_as(how, i) ^ (near ? UINT64_C(1) << bit++ % 64 : 0) : sweep_as(how, k), 1, 2, k);
+                                if ((i + k) % 5 == 0)
+                                    build_peer(&b, sweep_as(how, k), 1, 1, 1, k);
+                            }
+                            now.book_len = build_book(&b, now.book);
+                            check_list(SLOTS(10));
+                            check_record(now.book, SLOTS(1), COMBINATOR_PATH_SIZE);
+                        }
+}
+
+/* What is wrong with a body of three. */
+enum body { WHOLE, MANY_PEERS, LACKING, REPEATING, REPEATING_MANY_PEERS, REPEATING_LACKING, BODIES };
+
+/* Each of three bodies in each way, as cores and as non-cores; with all heads fit, with a sum that is off, with one head too long. */
+static void sweep_order(void)
+{
+    unsigned bodies, way[3], cores, head, k, i;
+    now.kind = "refusals of three bodies";
+    for (bodies = 0; bodies < BODIES * BODIES * BODIES; bodies++)
+        for (cores = 0; cores <= 3; cores++)
+            for (head = 0; head < 5; head++) {
+                way[0] = bodies % BODIES, way[1] = bodies / BODIES % BODIES, way[2] = bodies / BODIES / BODIES;
+                build_start(&b);
+                for (k = 0; k < 3; k++) {
+                    build_segment(&b, k < cores, 1000000, k);
+                    for (i = 0; i < 3; i++) {
+                        build_entry(&b, way[k] >= REPEATING && i == 2 ? AS_SOURCE : AS_SOURCE + i, 1, 2, i);
+                        if (i == 2 && (way[k] == MANY_PEERS || way[k] == REPEATING_MANY_PEERS))
+                            b.entry[COMBINATOR_ENTRY_PEER_COUNT] = COMBINATOR_MAX_PEERS + 1;
+                    }
+                    if (way[k] == LACKING || way[k] == REPEATING_LACKING)
+                        put16(b.head + COMBINATOR_HEAD_ENTRY_COUNT, 4);
+                    if (head == k + 1)
+                        put16(b.head + COMBINATOR_HEAD_ENTRY_COUNT, COMBINATOR_MAX_ENTRIES + 1);
+                }
+                if (head == 4)
+                    put16(b.head + COMBINATOR_HEAD_BODY_LENGTH, number16(b.head + COMBINATOR_HEAD_BODY_LENGTH) + 1);
+                now.book_len = build_book(&b, now.book);
+                check_list(SLOTS(10));
+                check_record(now.book, SLOTS(1), COMBINATOR_PATH_SIZE);
+            }
 }
 
 static void sweep_outputs(void)
@@ -854,6 +1066,18 @@ static void sweep_outputs(void)
         check_record(listed, SLOTS(1), n);
     check_record(listed, SLOTS(1), COMBINATOR_LIST_SIZE);
     check_record(listed, SLOTS(1), MAX_OUT);
+}
+
+/* The most work to see whether an AS stands twice, in as many entries as a book holds. */
+static void sweep_endings(void)
+{
+    unsigned again;
+    now.kind = "ASes of one ending";
+    for (again = 0; again < 2; again++) {
+        now.book_len = build_one_ending(now.book, COMBINATOR_MAX_SEGMENTS, (int)again);
+        if ((check_list(COMBINATOR_LIST_SIZE) == COMBINATOR_TWICE) != (again == 1))
+            fail("the sweep's ASes of one ending");
+    }
 }
 
 /* The most work for routes: as many long lists of interfaces as there are slots, all different or all the same, and lists made to be
@@ -927,6 +1151,9 @@ static void sweep(void)
     state = 1;
     sweep_lengths();
     sweep_bodies();
+    sweep_twice();
+    sweep_order();
+    sweep_endings();
     sweep_outputs();
     sweep_dear();
     sweep_records();
@@ -936,6 +1163,15 @@ static void report(const char *call, const struct longest *l)
 {
     printf("%s: %" PRIu64 " calls, the longest %.3f ms (turn %" PRIu64 ", book of %zu bytes, answer %" PRIu32 ")\n", call, l->calls,
            (double)l->ns / 1e6, l->turn, l->book_len, l->answer);
+}
+
+/* The books are neither without an AS that stands twice nor nearly all with one. */
+static void shares(const char *what)
+{
+    printf("%s: %" PRIu64 " listings, %" PRIu64 " accepted, %" PRIu64 " refused since an AS stands twice\n", what, listings, accepted, twice);
+    if (accepted < listings / 4 || twice < listings / 40 || twice > listings / 2)
+        fail("%s: too few or too many of these", what);
+    listings = accepted = twice = 0;
 }
 
 int fuzz_mode(int args, char **arg)
@@ -962,6 +1198,8 @@ int fuzz_mode(int args, char **arg)
     else
         sweep();
     printf("the sweep took %.1f s\n", (double)(now_ns() - start) / 1e9);
+    if (args < 3)
+        shares("the sweep");
     start = now_ns();
     while (seconds ? now_ns() - start < limit * 1000000000u : turns < limit) {
         turn(seed, first + turns);
@@ -969,6 +1207,9 @@ int fuzz_mode(int args, char **arg)
     }
     printf("seed %" PRIu64 ", %" PRIu64 " turns: every answer and output as the model's, no byte written beside a buffer%s\n", seed, turns,
            undefined ? "" : ", no call longer than stated");
+    /* Of few turns there is no share to speak of. */
+    if (turns >= 1000)
+        shares("the turns");
     for (i = 0; i < KINDS; i++)
         report(call_name[i], &longest[i]);
     printf("%" PRIu64 " routes; assembly gave %" PRIu64 " paths, %" PRIu64 " loop, %" PRIu64 " bare; refusals", routes, paths, loops, bares);

@@ -115,6 +115,14 @@ static const struct combinator_entry first = {UINT64_C(0x0001ff0000000110), 1500
 static const struct combinator_entry leaf = {UINT64_C(0x0001ff0000000111), 1400, 1350, {63, 7, 0, {10, 11, 12, 13, 14, 15}}};
 static const struct combinator_peer peer = {UINT64_C(0x0001ff0000000112), 2, 1400, {62, 9, 5, {240, 241, 242, 243, 244, 245}}};
 
+/* Writes `first` with another AS. */
+static uint32_t write_as(struct combinator_writer *w, uint64_t as)
+{
+    struct combinator_entry entry = first;
+    entry.as = as;
+    return combinator_write_entry(w, &entry);
+}
+
 static int accepted(const struct combinator_writer *w)
 {
     static uint8_t list[COMBINATOR_LIST_SIZE];
@@ -260,8 +268,9 @@ static void refusals(int core)
     refused(&w, before, length, COMBINATOR_MISFIT);
     CHECK(BEGIN() == 0);
     for (i = 0; i < COMBINATOR_MAX_ENTRIES; i++)
-        CHECK(combinator_write_entry(&w, &first) == 0 && accepted(&w));
-    CHECK(combinator_write_entry(&w, &first) == COMBINATOR_LONG);
+        CHECK(write_as(&w, i) == 0 && accepted(&w));
+    /* Before Twice, as in a book. */
+    CHECK(write_as(&w, 0) == COMBINATOR_LONG);
     refused(&w, before, length, COMBINATOR_LONG);
     CHECK(BEGIN() == 0 && combinator_write_entry(&w, &first) == 0);
     for (i = 0; i < COMBINATOR_MAX_PEERS; i++)
@@ -269,13 +278,33 @@ static void refusals(int core)
     CHECK(combinator_write_peer(&w, &peer) == COMBINATOR_PEERS);
     refused(&w, before, length, COMBINATOR_PEERS);
 
+    /* An AS twice, at every two entries, behind peers too; the segments before have these ASes, and that is none. */
+    for (i = 1; i < COMBINATOR_MAX_ENTRIES; i++)
+        for (p = 0; p < i; p++) {
+            unsigned e;
+            CHECK(BEGIN() == 0);
+            for (e = 0; e < i; e++)
+                CHECK(write_as(&w, first.as + e) == 0 && (e % 3 || combinator_write_peer(&w, &peer) == 0) && accepted(&w));
+            CHECK(write_as(&w, first.as + p) == COMBINATOR_TWICE);
+            refused(&w, before, length, COMBINATOR_TWICE);
+        }
+    /* Another bit, of the ISD or of the AS number, is another AS; that of a peer is none. */
+    for (i = 0; i < 64; i++) {
+        CHECK(BEGIN() == 0 && write_as(&w, first.as) == 0 && write_as(&w, first.as ^ UINT64_C(1) << i) == 0 && accepted(&w));
+        CHECK(write_as(&w, first.as) == COMBINATOR_TWICE);
+        refused(&w, before, length, COMBINATOR_TWICE);
+    }
+    CHECK(BEGIN() == 0 && write_as(&w, peer.as) == 0 && combinator_write_peer(&w, &peer) == 0 && write_as(&w, first.as) == 0 && accepted(&w));
+    CHECK(combinator_write_peer(&w, &peer) == 0 && write_as(&w, peer.as) == COMBINATOR_TWICE);
+    refused(&w, before, length, COMBINATOR_TWICE);
+
     /* Full segments up to the longest book, in a room that is longer. */
     for (answer = 0; !answer;) {
         length = w.length;
         memcpy(before, room, length);
         answer = BEGIN();
         for (i = 0; !answer && i < COMBINATOR_MAX_ENTRIES; i++) {
-            answer = combinator_write_entry(&w, &first);
+            answer = write_as(&w, i);
             for (p = 0; !answer && p < COMBINATOR_MAX_PEERS; p++)
                 answer = combinator_write_peer(&w, &peer);
         }

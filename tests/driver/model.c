@@ -72,13 +72,16 @@ static const uint8_t *head_of(const uint8_t *book, unsigned position)
     return book + COMBINATOR_COUNTS_SIZE + COMBINATOR_HEAD_SIZE * position;
 }
 
-/* The refusal of a body, or 0. */
+/* The refusal of a body, or 0: first its bytes, then its ASes. */
 static uint32_t body_verdict(const uint8_t *body, size_t left, unsigned entries)
 {
-    for (; entries > 0; entries--) {
+    uint64_t as[COMBINATOR_MAX_ENTRIES];
+    unsigned i, j;
+    for (i = 0; i < entries; i++) {
         unsigned peers;
         if (left < COMBINATOR_ENTRY_SIZE)
             return COMBINATOR_MISFIT;
+        as[i] = number64(body + COMBINATOR_ENTRY_AS);
         peers = body[COMBINATOR_ENTRY_PEER_COUNT];
         if (peers > COMBINATOR_MAX_PEERS)
             return COMBINATOR_PEERS;
@@ -89,7 +92,13 @@ static uint32_t body_verdict(const uint8_t *body, size_t left, unsigned entries)
         body += COMBINATOR_PEER_SIZE * peers;
         left -= COMBINATOR_PEER_SIZE * peers;
     }
-    return left ? COMBINATOR_MISFIT : 0;
+    if (left)
+        return COMBINATOR_MISFIT;
+    for (i = 0; i < entries; i++)
+        for (j = 0; j < i; j++)
+            if (as[j] == as[i])
+                return COMBINATOR_TWICE;
+    return 0;
 }
 
 /* The refusal of a book, or 0. */
@@ -204,7 +213,7 @@ static int compare_vertices(const struct vertex *a, const struct vertex *b)
     return c;
 }
 
-/* Of edges of one segment (those from `from` on) with equal ends the last stands. */
+/* Of edges of one segment (those from `from` on) with equal ends, which are peers of one entry or a core of one entry, the last stands. */
 static void store(size_t from, unsigned position, struct vertex start, struct vertex end, unsigned shortcut, int peer, unsigned weight)
 {
     size_t i;

@@ -78,6 +78,8 @@ int scale_mode(int args, char **arg)
         line("links", n, build_links(book, n));
     for (n = 1; n <= COMBINATOR_MAX_SEGMENTS; n *= 2)
         line("alike", n, build_alike(book, n));
+    for (n = 1; n <= COMBINATOR_MAX_SEGMENTS; n *= 2)
+        line("endings", n, build_one_ending(book, n, 0));
     /* The longest lists of interfaces: all different, all the same, and as near to each other as can be made. */
     for (n = 0; n <= 2; n += 2) {
         line("routes", n, build_long(book, n, 0));

@@ -26,7 +26,7 @@ SEED = "stored"
 PROFILES = {"tiny": 900, "small": 900, "copies": 700, "peering": 900, "three": 700, "network": 500, "loops": 500, "bare": 300,
             "medium": 150, "same_ends": 40, "crowd": 30}
 # Kept whatever their size: the longest paths; up to the most segments.
-LARGE = {"longest": range(2), "many": (2, 7)}
+LARGE = {"longest": range(2), "many": (7, 23)}
 ENOUGH = 2          # kept books that show the same
 SMALL = 1000        # bytes of a book
 FEW = 12            # solutions
@@ -84,11 +84,8 @@ def shows(case, cores, segments, sols):
     found.add(("solutions", min(len(sols), 10)))
     found.add(("most peers", max([e.peer_count for x in segments for e in x.entries], default=0), bool(sols)))
     for p, x in enumerate(segments):
-        ases = [e.isd_as for e in x.entries]
-        if not ases:
+        if not x.entries:
             found.add(("empty segment", bool(sols)))
-        if len(set(ases)) < len(ases):
-            found.add(("repeated AS", x.core, bool(sols)))
         if x.core and any(e.peers for e in x.entries):
             found.add(("peers of a core", bool(sols)))
         if x in segments[:p]:
@@ -121,7 +118,7 @@ def main():
     large = [gen.make(SEED, i, name)[1] for name, turns in LARGE.items() for i in turns]
     made = by_hand + large + small
     always = len(by_hand) + len(large)
-    seen, kept, count, solutions = Counter(), [], 0, Counter()
+    seen, kept, solutions = Counter(), [], Counter()
     for i, (case, sols) in enumerate(zip(made, answers(oracle, made), strict=True)):
         if isinstance(sols, int):
             continue
@@ -135,19 +132,19 @@ def main():
             continue
         seen.update(found)
         kept.append(stored(case, sols))
-        count += 1
         solutions.update(s["verdict"] for s in sols)
     # Those of the tables of spec, whatever they show.
+    shown, asked = len(kept), 0
     tables = [case for case in pins.inputs() if not any(k[4:4 + len(case)] == case for k in kept)]
     for case, sols in zip(tables, answers(oracle, tables), strict=True):
         segments = batch.book(case[16:])[1]
         sols.sort(key=lambda s: (order(segments, s), [e[0] for e in s["edges"]]))
         kept.append(stored(case, sols))
-        count += 1
-        solutions.update(s["verdict"] for s in sols)
+        asked += len(sols)
     with open(out, "wb") as f:
         f.write(b"".join(kept))
-    print(f"{count} cases, {sum(map(len, kept))} bytes, {len(seen)} things shown; {dict(solutions)}")
+    print(f"{shown} cases with {len(seen)} things shown, {dict(solutions)}; {len(kept) - shown} of the tables with {asked} solutions; "
+          f"{sum(map(len, kept))} bytes")
 
 
 if __name__ == "__main__":

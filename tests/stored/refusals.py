@@ -12,14 +12,14 @@ import form
 from form import ASSEMBLY, LISTING
 from booktext import layout
 from booktext.layout import (COUNTS, CROWDED, CUT, ENTRY, FULL, HEAD, LIST_SIZE, LONG, MAX_BOOK, MAX_ENTRIES, MAX_PEERS, MAX_SEGMENTS, MAX_SOLUTIONS,
-                             MISFIT, OVERSIZE, PATH_SIZE, PEER, PEERS, RECORD_SIZE, SMALL, STRANGER, SURPLUS, head_place, solution)
+                             MISFIT, OVERSIZE, PATH_SIZE, PEER, PEERS, RECORD_SIZE, SMALL, STRANGER, SURPLUS, TWICE, head_place, solution)
 
 A, B, X, Y = 0x0001FF0000000111, 0x0001FF0000000110, 0x0001FF0000000210, 0x0001FF0000000310
 MAC = bytes.fromhex("010203040506")
 
 
 def verdict(book):
-    """The first that holds of: 3, 1 (the counts themselves), 4, 1, 2, 5 over all heads, 7 (the sum), bodies by position."""
+    """The first that holds of: 3, 1 (the counts themselves), 4, 1, 2, 5 over all heads, 7 (the sum), bodies by position: of each 6 and 7, then 11."""
     if len(book) > MAX_BOOK:
         return OVERSIZE
     if len(book) < COUNTS.size:
@@ -36,10 +36,11 @@ def verdict(book):
     if sum(h.body_length for h in heads) != total:
         return MISFIT
     for h in heads:
-        body, at = book[at:at + h.body_length], at + h.body_length
+        body, at, passed = book[at:at + h.body_length], at + h.body_length, set()
         for _ in range(h.entry_count):
             if len(body) < ENTRY.size:
                 return MISFIT
+            passed.add(body[:layout.AS_SIZE])
             peers, body = body[ENTRY.at.peer_count], body[ENTRY.size:]
             if peers > MAX_PEERS:
                 return PEERS
@@ -48,6 +49,8 @@ def verdict(book):
             body = body[PEER.size * peers:]
         if body:
             return MISFIT
+        if len(passed) < h.entry_count:
+            return TWICE
     return 0
 
 
@@ -140,7 +143,7 @@ both(0, book(cores=HALF, noncores=HALF) + bytes(HEADS))
 both(0, book(cores=MAX_SEGMENTS, noncores=0) + bytes(HEADS))
 # 5 Long, over all heads before the sum and the bodies
 MANY = MAX_ENTRIES + 1
-full = [entry(X, 1, 1) for _ in range(MANY)]
+full = [entry(X + i, 1, 1) for i in range(MANY)]
 both(0, book(seg(*full[:MAX_ENTRIES])))
 both(LONG, book(seg(*full)))
 both(LONG, book((MANY, b"")))
@@ -176,6 +179,79 @@ both(MISFIT, book((1, entry(A, peers=1)[:-1])))
 both(MISFIT, book(seg(entry(A)), seg(entry(B)), heads=[MORE, LESS]))
 both(MISFIT, book((1, b""), seg(entry(A, said=MANY))))
 both(0, book((0, b""), seg(entry(A))))
+# 11 Twice, of cores and non-cores: neighbours, the two ends, between others, above the leaf, the leaf's again; with peers between them
+def passing(*ases, peers=0):
+    return seg(*(entry(a, 1, 2, peers) for a in ases))
+
+
+for cores in (0, 1):
+    for ases in ((A, A), (A, X, A), (A, A, B), (B, A, A), (B, X, A, X, Y), (B, X, Y, A, X), (X, B, Y, A, X), (0, 0), (B, 0, A, 0), 3 * (A,), (A, B, A, B),
+                 2 * (ENTRY.of.isd_as.most,)):
+        both(TWICE, book(passing(*ases), cores=cores))
+    both(TWICE, book(passing(A, X, A, peers=MAX_PEERS), cores=cores))
+    both(TWICE, book(seg(entry(X, peers=2), entry(A), entry(B, peers=1), entry(X, peers=MAX_PEERS)), cores=cores))
+both(TWICE, book(passing(B, A), passing(B, X, B), cores=1))
+both(TWICE, book((0, b""), passing(B, A), passing(B, X, B), passing(X, X)))
+# ... of the most entries: at the two ends, beside each other, apart; of ASes alike in their last bits too
+FAR = [X + 0x40 * i for i in range(MAX_ENTRIES)]
+for ases in ([X + i for i in range(MAX_ENTRIES)], FAR):
+    both(0, book(passing(*ases)))
+    last = MAX_ENTRIES - 1
+    for i, j in ((0, last), (0, 1), (last - 1, last), (1, last), (0, last - 1), (3, 12), (7, 8)):
+        both(TWICE, book(passing(*ases[:j], ases[i], *ases[j + 1:])))
+both(TWICE, book(passing(*FAR[:-1], FAR[0], peers=MAX_PEERS), cores=1))
+# ... and what is none: another ISD, another bit anywhere, one AS number in as many ISDs as a segment has entries
+for bit in range(8 * layout.AS_SIZE):
+    both(0, book(passing(A, A ^ 1 << bit)))
+both(0, book(passing(*(A + (i << 48) for i in range(MAX_ENTRIES)))))
+both(TWICE, book(passing(*(A + (i << 48) for i in range(MAX_ENTRIES - 1)), A)))
+# ... one AS in two segments, equal ones and of both kinds; the ASes of peers; a core of one entry
+both(0, book(passing(B, A), passing(B, A), passing(A, B), passing(A), passing(A), cores=1))
+both(0, book(passing(A), passing(A), cores=2))
+both(0, book(seg(entry(Y, peers=MAX_PEERS), entry(A, peers=1))))
+both(0, book(seg(entry(A)), cores=1))
+# ... the order: the counts and lengths, 5 over all heads, the sum
+REPEAT = passing(A, X, A)
+REPEATED = book(REPEAT)
+both(CUT, REPEATED[:-1])
+both(SURPLUS, REPEATED + b"\0")
+both(CROWDED, book(REPEAT, *MAX_SEGMENTS * [(0, b"")]))
+both(TWICE, book(REPEAT, *(MAX_SEGMENTS - 1) * [(0, b"")]))
+both(TWICE, book(*(MAX_SEGMENTS - 1) * [(0, b"")], REPEAT, cores=3))
+both(LONG, book(REPEAT, (MAX_ENTRIES + 1, b"")))
+both(LONG, book((MAX_ENTRIES + 1, b""), REPEAT))
+both(LONG, book(passing(*FAR, A, A)))
+both(MISFIT, book(REPEAT, heads=[(3, len(REPEAT[1]) + 1)]))
+both(MISFIT, book(REPEAT, seg(entry(B)), heads=[(3, len(REPEAT[1])), LESS]))
+both(MISFIT, book(seg(entry(B)), REPEAT, heads=[MORE, (3, len(REPEAT[1]))]))
+# ... its own body's 6 and 7, wherever they stand in it
+both(PEERS, book(seg(entry(A), entry(A, said=MANY))))
+both(PEERS, book(seg(entry(A, said=MANY), entry(A))))
+both(PEERS, book(seg(entry(A), entry(A), entry(X, said=MANY))))
+both(PEERS, book(seg(entry(A), entry(A), entry(X, said=MANY)), cores=1))
+both(MISFIT, book((3, entry(A) + entry(A))))
+both(MISFIT, book((2, entry(A) + entry(A) + b"\0")))
+both(MISFIT, book((2, entry(A) + entry(A)[:-1])))
+both(MISFIT, book((2, entry(A) + entry(A) + entry(X))))
+both(MISFIT, book(seg(entry(A), entry(A), entry(X, said=1))))
+both(MISFIT, book((2, entry(A) + entry(A) + b"\0"), cores=1))
+# ... before a later body's, after an earlier body's
+for cores in range(4):
+    both(TWICE, book(REPEAT, seg(entry(B, said=MANY)), cores=min(cores, 2)))
+    both(TWICE, book(REPEAT, (1, b""), cores=min(cores, 2)))
+    both(TWICE, book(REPEAT, (1, entry(B) + b"\0"), REPEAT, cores=cores))
+    both(TWICE, book(seg(entry(B)), REPEAT, seg(entry(B, said=MANY)), cores=cores))
+    both(PEERS, book(seg(entry(B, said=MANY)), REPEAT, cores=min(cores, 2)))
+    both(MISFIT, book((1, b""), REPEAT, cores=min(cores, 2)))
+    both(MISFIT, book((0, b"\0"), REPEAT, (1, b""), cores=cores))
+    both(MISFIT, book(seg(entry(B)), (1, entry(B) + b"\0"), REPEAT, cores=cores))
+both(MISFIT, book((1, entry(B) + b"\0"), REPEAT, seg(entry(B, said=MANY))))
+both(PEERS, book(seg(entry(B, said=MANY)), REPEAT, (1, b"")))
+# ... whatever the ends and the record
+for src, dst in ((A, A), (B, A), (Y, X)):
+    listing(TWICE, REPEATED, src=src, dst=dst)
+assembly(TWICE, REPEATED)
+assembly(TWICE, REPEATED, b"\xff" * RECORD_SIZE)
 # 8 Full: one solution and no slot, one slot; all slots and more
 for n in (0, 1, RECORD_SIZE - 1):
     listing(FULL, WORKED, n)
@@ -243,7 +319,7 @@ def main():
     numbers = {}
     with open(sys.argv[1], "wb") as f:
         for src, dst, b, call, out_len, record, number in CASES:
-            assert number > MISFIT or verdict(b) == number
+            assert verdict(b) == (0 if number in (FULL, SMALL, STRANGER) else number)
             f.write(form.called(form.given(src, dst, b), call, out_len, record, number))
             numbers[number] = numbers.get(number, 0) + 1
     print(f"{len(CASES)} cases by number: {dict(sorted(numbers.items()))}")

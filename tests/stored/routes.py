@@ -13,7 +13,7 @@ from collections import Counter
 
 import form
 from booktext import layout
-from booktext.layout import CROWDED, CUT, ENDS, FINGERPRINTED, FULL, LIST_SIZE, LONG, MISFIT, PATH_HEAD, PEERS, RECORD_SIZE, SURPLUS
+from booktext.layout import CROWDED, CUT, ENDS, FINGERPRINTED, FULL, LIST_SIZE, LONG, MISFIT, PATH_HEAD, PEERS, RECORD_SIZE, SURPLUS, TWICE
 from booktext.layout import Entry, Peer, Segment
 import gen  # noqa: E402
 
@@ -191,6 +191,9 @@ for room in (LIST_SIZE, 0):
     case(PEERS, [], [seg(entry(A, peers=(layout.MAX_PEERS + 1) * [Peer(B, 9, 1500, 63, 8, 0, MAC)]))], room=room)
     case(MISFIT, [], [], raw=layout.COUNTS.pack(0, 1, 1) + layout.HEAD.pack(T, 1, 1, 1) + b"\0", room=room)
     case(CUT, [], [], src=A, dst=A, raw=GOOD[:-1], room=room)
+    case(TWICE, [], [seg(entry(A, 0, 5), entry(B, 1, 2), entry(A, 7, 0))], room=room)
+    case(TWICE, [seg(entry(B, 0, 5), entry(X, 1, 2), entry(X, 1, 2), entry(A, 7, 0))], [up()], room=room)
+    case(TWICE, [], [up(), seg(entry(X, 0, 5), entry(A, 1, 2), entry(X, 7, 0))], src=A, dst=A, room=room)
 
 
 # ---- the model

@@ -4,7 +4,7 @@ The keys are the names of fields with _ for -. Numbers are numbers; ISD-ASes, id
 """
 import json
 
-from . import BookError, text
+from . import BookError, isd_as, text
 from .layout import ENTRY_FIELDS, KINDS, PEER_FIELDS, SEGMENT_FIELDS, WORDS
 
 
@@ -29,7 +29,8 @@ def written(segments):
 
 def refused(found):
     kind = None if found.core is None else KINDS[found.core]
-    place = {"position": found.position, "kind": kind, "entry": found.entry, "byte": found.byte}
+    both = None if found.isd_as is None else isd_as.written(found.isd_as)
+    place = {"position": found.position, "kind": kind, "entry": found.entry, "byte": found.byte, "earlier": found.earlier, "isd_as": both}
     return document({"accepted": False, "refusal": {"number": found.number, "word": WORDS[found.number], **place, "words": found.reason}})
 
 
@@ -39,10 +40,10 @@ def accepted(counts, notes):
 
 # ---- reading
 
-def parse(data, name="<JSON>"):
+def parse(data, name="<JSON>", shown=isd_as.written):
     """The segments that the JSON (bytes) describes; BookError with name and place."""
     try:
-        parser = text.Parser()
+        parser = text.Parser(shown)
         add_all(parser, json.loads(data.decode("utf-8-sig"), object_pairs_hook=each_once))
     except (ValueError, RecursionError) as wrong:
         raise BookError(f"{name}: {wrong}") from None

@@ -2,6 +2,7 @@
 from codecs import BOM_UTF8
 
 from . import BookError, as_json, layout, text
+from .names import shown
 
 BYTES, TEXT, JSON = "bytes", "text", "JSON"
 
@@ -18,15 +19,15 @@ def form(data):
     return JSON if data.lstrip(b" " + BLANKS + BOM_UTF8).startswith(b"{") else TEXT
 
 
-def book(data, name):
+def book(data, name, names=None):
     """The bytes of the book; BookError for text or JSON that gives none."""
     found = form(data)
-    return data if found == BYTES else layout.write(segments(data, name))
+    return data if found == BYTES else layout.write(segments(data, name, names))
 
 
-def segments(data, name):
+def segments(data, name, names=None):
     """Those that a text or JSON describes; an empty file is a text without any."""
     found = form(data)
     if data and found == BYTES:
         raise BookError(f"{name}: neither text nor JSON, since it has control characters; the bytes of a book are taken by decode, check, list and draw")
-    return (as_json if found == JSON else text).parse(data, name)
+    return (as_json if found == JSON else text).parse(data, name, lambda isd_as: shown(isd_as, names or {}))

@@ -123,8 +123,8 @@ CONSTRUCTION, PEERING = 1, 2
 
 PATH, LOOP, BARE = range(3)
 REFUSED = 65536         # refusal N is answered as REFUSED + N
-WORDS = dict(enumerate(("Cut", "Surplus", "Oversize", "Crowded", "Long", "Peers", "Misfit", "Full", "Small", "Stranger"), 1))
-CUT, SURPLUS, OVERSIZE, CROWDED, LONG, PEERS, MISFIT, FULL, SMALL, STRANGER = WORDS
+WORDS = dict(enumerate(("Cut", "Surplus", "Oversize", "Crowded", "Long", "Peers", "Misfit", "Full", "Small", "Stranger", "Twice"), 1))
+CUT, SURPLUS, OVERSIZE, CROWDED, LONG, PEERS, MISFIT, FULL, SMALL, STRANGER, TWICE = WORDS
 
 
 def constants():

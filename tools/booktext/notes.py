@@ -51,7 +51,7 @@ def notes(segments, names=None, now=None, between=None):
         elif not s.entries:
             found.append(Note("empty", "no entries: it yields no edges", position))
         else:
-            found += at_its_ends(position, s) + of_entries(position, s, names) + of_peers(position, s, links, names)
+            found += at_its_ends(position, s) + of_entries(position, s) + of_peers(position, s, links, names)
             found += reissue(position, segments, alike.setdefault(interfaces(s), position))
             found += run_out(position, s, now) if now is not None else []
     return found + ([Note("end", words) for words in ends.oddities(segments, *between, names)] if between else [])
@@ -66,12 +66,9 @@ def at_its_ends(position, s):
     return found
 
 
-def of_entries(position, s, names):
-    found, seen, most = [], set(), PATH_HEAD.of.mtu.most
+def of_entries(position, s):
+    found, most = [], PATH_HEAD.of.mtu.most
     for k, e in enumerate(s.entries):
-        if e.isd_as in seen:
-            found.append(Note("repeated", f"{shown(e.isd_as, names)} stands earlier in the segment", position, k))
-        seen.add(e.isd_as)
         if e.mtu > most:
             words = f"its MTU {e.mtu} is above {most}: only the low {8 * PATH_HEAD.of.mtu.size} bits count, which are {e.mtu & most}"
             found.append(Note("mtu", words, position, k))

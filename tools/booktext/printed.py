@@ -112,9 +112,9 @@ def written(solutions):
 
 # ---- words and names
 
-def refusal_words(number, book):
+def refusal_words(number, book, names=None):
     """A refusal of the program, in the words of `check` where that finds the same."""
-    found = verdict(book)
+    found = verdict(book, names)
     if found and found.number == number:
         return str(found)
     more = f": more than {MAX_SOLUTIONS} solutions" if number == FULL else ""

@@ -3,18 +3,21 @@ from dataclasses import dataclass
 
 from . import BookError, counted, layout
 from .layout import (COUNTS, CROWDED, CUT, ENTRY, HEAD, KINDS, LONG, MAX_BOOK, MAX_ENTRIES, MAX_PEERS, MAX_SEGMENTS, MISFIT, OVERSIZE, PEER, PEERS,
-                     SURPLUS, WORDS, head_place)
+                     SURPLUS, TWICE, WORDS, head_place)
+from .names import shown
 
 
 @dataclass
 class Refusal:
-    """A refusal with its place: segments by position, entries from 0, as the format counts them."""
+    """A refusal with its place: segments by position, entries from 0, as the format counts them. Of Twice the earlier entry too, and the AS of both."""
     number: int
     reason: str
     position: int = None
     entry: int = None
     byte: int = None
     core: bool = None
+    earlier: int = None
+    isd_as: int = None
 
     @property
     def place(self):
@@ -57,12 +60,15 @@ class Reader:
     def peer_count(self, entry_at):
         return ENTRY.get(self.book, entry_at, "peer_count")
 
-    def refusal(self, number, reason, position=None, entry=None, byte=None):
+    def isd_as(self, entry_at):
+        return ENTRY.get(self.book, entry_at, "isd_as")
+
+    def refusal(self, number, reason, position=None, entry=None, byte=None, **more):
         core = None if position is None else self.is_core(position)
-        return Refusal(number, reason, position, entry, byte, core)
+        return Refusal(number, reason, position, entry, byte, core, **more)
 
 
-def verdict(book):
+def verdict(book, names=None):
     """None for an accepted book, else the refusal that the order of tests in docs/SPECIFICATION.md 9.3 finds first."""
     if len(book) > MAX_BOOK:
         return Refusal(OVERSIZE, f"the book has {len(book)} bytes, at most {MAX_BOOK} are taken")
@@ -84,15 +90,15 @@ def verdict(book):
     if lengths != r.total:
         return Refusal(MISFIT, f"the body lengths in the heads sum to {lengths}, the sizes say {r.total}", byte=COUNTS.at.bodies)
     for position in range(r.count):
-        found = body_verdict(r, position)
+        found = body_verdict(r, position, names or {})
         if found:
             return found
     return None
 
 
-def body_verdict(r, position):
+def body_verdict(r, position, names):
     at, entries = r.body_start(position), r.entry_count(position)
-    end = at + r.body_length(position)
+    end, places = at + r.body_length(position), []
     for entry in range(entries):
         if end - at < ENTRY.size:
             return r.refusal(MISFIT, f"{counted(end - at, 'byte')} left in the body for an entry of {ENTRY.size} "
@@ -103,9 +109,22 @@ def body_verdict(r, position):
         if end - at < ENTRY.size + PEER.size * peers:
             return r.refusal(MISFIT, f"{counted(end - at - ENTRY.size, 'byte')} left in the body for {counted(peers, 'peer')} of {PEER.size}",
                              position, entry, at + ENTRY.size)
+        places.append(at)
         at += ENTRY.size + PEER.size * peers
     if at < end:
         return r.refusal(MISFIT, f"{counted(end - at, 'byte')} left in the body after its {counted(entries, 'entry', 'entries')}", position, byte=at)
+    return twice(r, position, places, names)
+
+
+def twice(r, position, places, names):
+    """The first entry whose AS stands earlier among the entries at these places."""
+    first = {}
+    for entry, at in enumerate(places):
+        found = r.isd_as(at)
+        earlier = first.setdefault(found, entry)
+        if earlier != entry:
+            reason = f"its AS stands earlier in the segment, at entry {earlier}: {shown(found, names)}"
+            return r.refusal(TWICE, reason, position, entry, at + ENTRY.at.isd_as, earlier=earlier, isd_as=found)
     return None
 
 

@@ -13,7 +13,7 @@ import re
 
 from . import BookError, isd_as, times
 from .layout import (COUNTS, CROWDED, ENTRY, ENTRY_FIELDS, HEAD, KINDS, LONG, MAX_BOOK, MAX_ENTRIES, MAX_PEERS, MAX_SEGMENTS, OVERSIZE, PEER,
-                     PEER_FIELDS, PEERS, SEGMENT_FIELDS, WORDS, Entry, Peer, Segment)
+                     PEER_FIELDS, PEERS, SEGMENT_FIELDS, TWICE, WORDS, Entry, Peer, Segment)
 
 DIGITS = re.compile(r"[0-9]+")
 COMMENT = re.compile(r"(^|\s)#.*")
@@ -96,9 +96,12 @@ def values_in(word, fields, words):
 
 
 class Parser:
-    def __init__(self):
+    """Segments of lines. `shown` gives the words for an AS. With `repeats` a segment may pass an AS twice, for a book that is to be refused."""
+
+    def __init__(self, shown=isd_as.written, repeats=False):
         self.segments = []
         self.size = COUNTS.size
+        self.shown, self.repeats = shown, repeats
 
     def take(self, words):
         """One line's words; ValueError says what is wrong."""
@@ -130,9 +133,14 @@ class Parser:
     def entry(self, values):
         if not self.segments:
             raise ValueError("an entry above the first segment")
-        if len(self.segments[-1].entries) == MAX_ENTRIES:
-            raise ValueError(limit(LONG, f"more than {MAX_ENTRIES} entries in segment {len(self.segments) - 1}"))
-        self.segments[-1].entries.append(Entry(**values))
+        entries, here = self.segments[-1].entries, f"segment {len(self.segments) - 1}"
+        if len(entries) == MAX_ENTRIES:
+            raise ValueError(limit(LONG, f"more than {MAX_ENTRIES} entries in {here}"))
+        found, ases = values["isd_as"], [e.isd_as for e in entries]
+        if found in ases and not self.repeats:
+            words = f"the AS of entry {len(entries)} stands earlier in {here}, at entry {ases.index(found)}: {self.shown(found)}"
+            raise ValueError(limit(TWICE, words))
+        entries.append(Entry(**values))
 
     def peer(self, values):
         if not self.segments or not self.segments[-1].entries:
@@ -159,9 +167,9 @@ def lines_of(data, name, error=BookError):
             yield number, words
 
 
-def parse(data, name="<text>"):
+def parse(data, name="<text>", shown=isd_as.written, repeats=False):
     """The segments that the text (bytes) describes; BookError with name and line number."""
-    parser = Parser()
+    parser = Parser(shown, repeats)
     for number, words in lines_of(data, name):
         try:
             parser.take(words)

@@ -217,13 +217,18 @@ impl<'a> BookWriter<'a> {
         let left = self.room.len().checked_sub(self.end + heads);
         let room = &mut self.room[self.end..][..left.ok_or(Refusal::Oversize)?];
         let mut body = Body { room, at: 0 };
+        let mut ases = [IsdAsn(0); MAX_ENTRIES];
         let mut count = 0;
         for (entry, peers) in entries {
             if count == MAX_ENTRIES {
                 return Err(Refusal::Long);
             }
             body.entry(&entry, peers)?;
+            ases[count] = entry.local;
             count += 1;
+        }
+        if (1..count).any(|i| ases[..i].contains(&ases[i])) {
+            return Err(Refusal::Twice);
         }
         let len = body.at;
 

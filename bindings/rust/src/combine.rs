@@ -61,10 +61,10 @@ impl core::fmt::Debug for OwnedPath {
 /// It has the shape of scion-sdk's `combine`. Solutions without a path, Loop and Bare, are left out, and
 /// where `src` equals `dst` there are no paths. But paths over the same route are all answered
 /// ([`combine_routes`] answers one of them), and what is above a limit is refused: segments, or more
-/// than [`MAX_SOLUTIONS`](crate::MAX_SOLUTIONS) solutions. The table of README.md, "What differs", has
-/// all of it.
+/// than [`MAX_SOLUTIONS`](crate::MAX_SOLUTIONS) solutions. So is a segment that passes an AS twice. The
+/// table of README.md, "What differs", has all of it.
 ///
-/// To leave out single segments above a limit, write the book with [`BookWriter::cores`] and
+/// To leave out single segments that are refused, write the book with [`BookWriter::cores`] and
 /// [`BookWriter::non_cores`], and ask [`paths`].
 ///
 /// ```

@@ -32,11 +32,13 @@ pub enum Refusal {
     Small = 9,
     /// Assembly: no solution of this book, source and destination.
     Stranger = 10,
+    /// An entry whose AS stands earlier in the same segment.
+    Twice = 11,
 }
 
 impl Refusal {
     /// All refusals, by number.
-    pub const ALL: [Self; 10] = [
+    pub const ALL: [Self; 11] = [
         Self::Cut,
         Self::Surplus,
         Self::Oversize,
@@ -47,6 +49,7 @@ impl Refusal {
         Self::Full,
         Self::Small,
         Self::Stranger,
+        Self::Twice,
     ];
 
     /// The number: docs/SPECIFICATION.md 9.2.
@@ -73,6 +76,7 @@ impl Refusal {
             Self::Full => "Full",
             Self::Small => "Small",
             Self::Stranger => "Stranger",
+            Self::Twice => "Twice",
         }
     }
 
@@ -94,6 +98,7 @@ impl Refusal {
             Self::Full => f.write_str("there are more solutions than slots"),
             Self::Small => write!(f, "the output is under {PATH_SIZE} bytes"),
             Self::Stranger => f.write_str("no solution of this book, source and destination"),
+            Self::Twice => f.write_str("an entry's AS stands earlier in the same segment"),
         }
     }
 

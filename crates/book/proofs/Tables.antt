@@ -40,7 +40,7 @@ module _ (b : List ℕ) (at place : ℕ) (table : List ℕ) where
   row-before zero j h = refl
   row-before (suc n) j h = getD-set-other (withRow b at place n table) (place + n) j _ 0 (λ e. omega arith) ∙ row-before n j h
 
-  row-at : (n i : ℕ) → i < n → place + n ≤ length table → getD (withRow b at place n table) (place + i) 0 ≡ entryOffset b at i
+  pub row-at : (n i : ℕ) → i < n → place + n ≤ length table → getD (withRow b at place n table) (place + i) 0 ≡ entryOffset b at i
   unfolding withRow
   row-at zero i h l = absurd (omega arith)
   row-at (suc n) i h l = go (row-at n i) (ℕ-discrete i n)
@@ -63,7 +63,7 @@ pub rows-all : (b : List ℕ) {k : ℕ} {rows : List ℕ} → rows ≡ rowsBelow
 unfolding offsetTable
 rows-all b er ek = er ∙ ap (rowsBelow b) ek
 
-rows-length : (b : List ℕ) (k : ℕ) → length (rowsBelow b k) ≡ maxSegments * maxEntries
+pub rows-length : (b : List ℕ) (k : ℕ) → length (rowsBelow b k) ≡ maxSegments * maxEntries
 unfolding rowsBelow noOffsets
 rows-length b zero = length-replicate {A = ℕ} (maxSegments * maxEntries) 0
 rows-length b (suc k) = row-length b (bodyOffset b k) (maxEntries * k) (rowsBelow b k) (entryCountAt b k) ∙ rows-length b k

@@ -92,12 +92,6 @@ peers-here b at = refl
 -- ---- the bodies by position
 
 module _ (b : List ℕ) (n k : ℕ) where
-  -- what the entries of the body at k say is what the body says
-  pub body-says : {at size count : ℕ} {v : Verdict} → at ≡ bodyOffset b k → size ≡ bodyLengthAt b k → count ≡ entryCountAt b k
-      → v ≡ entriesVerdict b (at + size) at count → bodyVerdict b k ≡ v
-  unfolding bodyVerdict
-  body-says ea es ec q = cc
-
   pub bodies-first : n ≡ segmentCount b → bodiesVerdict b 0 (segmentCount b) ≡ bodiesVerdict b 0 (n - 0)
   bodies-first h = let e : segmentCount b ≡ n - 0 = omega arith in ap (bodiesVerdict b 0) e
 
@@ -335,3 +329,7 @@ size-looked s q p h = ap (λ l. getD l p 0) q ∙ go p h
     go (suc (suc (suc zero))) h = refl
     go (suc (suc (suc (suc zero)))) h = refl
     go (suc (suc (suc (suc (suc p))))) h = absurd (omega arith)
+
+-- an offset with such a size added
+pub size-at : (start : ℕ) {size more : ℕ} → size ≡ more → start + size ≡ start + more
+size-at start e = ap (λ n. start + n) e

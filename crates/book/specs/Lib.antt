@@ -1,2 +1,4 @@
 pub mod Offsets
 pub mod Sizes
+pub mod Repeats
+pub mod Marks

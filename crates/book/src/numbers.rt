@@ -3,7 +3,7 @@ ghost use mathlib.Core.Path.{_≡_};
 ghost use Prim.Native.Nat.{_+_, _*_, _^_, _≤_, _<_};
 ghost use lib.ListN.{length};
 ghost use Rattle.spec.specs.Limits.{sizesSize, headSize};
-ghost use Rattle.spec.specs.Octets.{be16};
+ghost use Rattle.spec.specs.Octets.{be16, be32};
 ghost use Rattle.spec.specs.Book.{entryCountAt, bodyLengthAt};
 use spec::Head;
 use spec::Sizes;
@@ -25,6 +25,23 @@ pub(crate) fn pair(book: &[u8], at: usize) -> u16
     ensures { λ r. ⌜ r ≡ be16 (now (book .entry)) at ⌝ }
 {
     wide16(book[at]) * 256 + wide16(book[at + 1])
+}
+
+fn wide32(b: u8) -> u32
+    ensures { λ r. ⌜ (r ≡ b) × (r < 256) ⌝ }
+{
+    b as u32
+}
+
+// Four bytes. The compiler makes one load of a flat sum.
+pub(crate) fn half(book: &[u8], at: usize) -> u32
+    requires { ⌜ at + 4 ≤ length (now book) ⌝ }
+    ensures { λ r. ⌜ r ≡ be32 (now (book .entry)) at ⌝ }
+{
+    wide32(book[at]) * 16777216
+        + wide32(book[at + 1]) * 65536
+        + wide32(book[at + 2]) * 256
+        + wide32(book[at + 3])
 }
 
 pub(crate) fn count_within(book: &[u8], k: u8) -> u16

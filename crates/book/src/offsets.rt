@@ -7,6 +7,7 @@ ghost use Rattle.book.specs.Sizes.{Sized, Body, entrySizes};
 use crate::numbers::count_within;
 use crate::numbers::length_within;
 use crate::numbers::wide;
+use crate::twice::passes_twice;
 use spec::AsEntry;
 use spec::Limits;
 use spec::PeerEntry;
@@ -17,7 +18,7 @@ use spec::Verdict;
 pub const PLACES: usize = Limits::SEGMENTS * Limits::ENTRIES;
 
 // How many numbers of peers an entry may have.
-const COUNTS: usize = Limits::PEERS + 1;
+pub(crate) const COUNTS: usize = Limits::PEERS + 1;
 
 // The bytes of an entry with its peers, by their number: looking them up is shorter than working them out.
 pub(crate) fn entry_sizes() -> [usize; COUNTS]
@@ -91,6 +92,9 @@ pub(crate) fn fill_rows(book: &[u8], table: &mut [u16; PLACES]) -> Verdict
         );
         if let Verdict::Refused(_) = v {
             return v;
+        }
+        if passes_twice(book, table, Limits::ENTRIES * (k as usize), n) {
+            return Verdict::Refused(Refusal::Twice);
         }
         at = end;
         k += 1;

@@ -2,3 +2,4 @@ pub mod Exports
 pub mod Demand1
 pub mod Demand3
 pub mod Routes
+pub mod Twice

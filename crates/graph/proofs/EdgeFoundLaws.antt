@@ -12,19 +12,20 @@ use Rattle.spec.specs.declared.Vertex.{Vertex}
 use Rattle.spec.specs.declared.Vertex.the-variants.{AS, Peering}
 use Rattle.spec.specs.declared.Edge.{Edge}
 use Rattle.spec.specs.Basics.{if_then_else_}
-use Rattle.spec.specs.Book.{Segment, segmentAt}
-use Rattle.spec.specs.Edges.{sameAs, leafAs, inConstruction}
+use Rattle.spec.specs.Book.{sameAs, Segment, segmentAt}
+use Rattle.spec.specs.Edges.{leafAs, inConstruction}
+use Rattle.spec.specs.Loopless.{Apart}
 use Rattle.spec.proofs.Membership.{not-both}
 use Rattle.spec.proofs.Vertices.{sameAs-eq}
 use Rattle.graph.specs.declared.vertices.Link.{Link}
 use Rattle.graph.specs.declared.edges.EdgeFound.{EdgeFound}
 use Rattle.graph.specs.Lookup.{between}
-use Rattle.graph.specs.Leaving.{entryCount, isEntryOf}
-use Rattle.graph.specs.Scan.{entryWith, entryLinked, peerLinked, asEdgeAt, downPeerEdge}
+use Rattle.graph.specs.Leaving.{entryCount, isEntryOf, entryWith, peerLinked, asEdgeAt, downPeerEdge}
+use Rattle.graph.specs.Link.{endOf}
 use Rattle.graph.specs.EdgeFound.{wholeEdge, wholeEdges}
 use Rattle.graph.proofs.LookupScan.{first-le}
 use Rattle.graph.proofs.LookupLaws.{as-eq, eq-sameAs, as-not-peering}
-use Rattle.graph.proofs.EdgeReads.{leaf-arrives, as-made, as-none, peer-made, peer-none, to-as, to-link, from-as, from-none}
+use Rattle.graph.proofs.EdgeReads.{leaf-arrives, as-made, as-none, peer-made, peer-past, peer-missing, to-as, to-link, from-as, from-none}
 
 -- ---- found or not
 
@@ -75,14 +76,18 @@ module _ (b : List ℕ) (k : ℕ) (nc : segmentAt b k .core ≡ false) {n : ℕ}
         go true q = as-made b k v (AS w) n i count _ c false found (ltb-true _ _ q) p (sym nc)
         go false q = as-none b k v (AS w) n i count _ found (ltb-false _ _ q)
 
-  module _ (l : Vertex) {i : ℕ} (found : i ≡ entryLinked seg l n) where
-    pub link-joined : {q : ℕ} → i < n → q ≡ peerLinked seg l i → (v : Vertex) (w : IsdAsn) → true ≡ inConstruction seg (AS w)
-        → wholeEdges k v w (joined true true i q (n - 1 - i)) ≡ downPeerEdge seg v (AS w) l
+  module _ (l : Link) {i : ℕ} (found : i ≡ entryWith seg (l .local) n) where
+    pub link-joined : {q : ℕ} → i < n → q ≡ peerLinked seg (endOf l) i → (v : Vertex) (w : IsdAsn) → true ≡ inConstruction seg (AS w)
+        → wholeEdges k v w (joined (ltb 0 q) true i q (n - 1 - i)) ≡ downPeerEdge seg v (AS w) l
     unfolding wholeEdges wholeEdge
-    link-joined {q} g f v w p = peer-made b k v (AS w) n i count l found q true false f g p (sym nc)
+    link-joined {q} g f v w p = go (ltb 0 q) refl
+      where
+        go : (t : Bool) → ltb 0 q ≡ t → wholeEdges k v w (joined t true i q (n - 1 - i)) ≡ downPeerEdge seg v (AS w) l
+        go true e = peer-made b k v (AS w) n i count l found q true false f g (ltb-true _ _ e) p (sym nc)
+        go false e = peer-missing b k v (AS w) n i count l found q f (ltb-false _ _ e)
 
     pub link-none : (j : EdgeFound) → n ≤ i → j .found ≡ false → (v : Vertex) (w : IsdAsn) → wholeEdges k v w j ≡ downPeerEdge seg v (AS w) l
-    link-none j g f v w = whole-none k v w j f (peer-none b k v (AS w) n i count l found g)
+    link-none j g f v w = whole-none k v w j f (peer-past b k v (AS w) n i count l found g)
 
 -- ---- one of the two is the leaf
 
@@ -95,12 +100,14 @@ module _ (seg : Segment) (nc : seg .core ≡ false) {n : ℕ} (count : n ≡ ent
     pub join-other : u ≡ false → j .found ≡ false → wholeEdges k v w j ≡ between seg v (AS w)
     join-other q f = whole-none k v w j f (from-none seg w nc n count (at-leaf w test q) v (λ e. as-not-peering (e ∙ at)))
 
-    pub join-link : u ≡ true
-        → ((x : Vertex) (y : IsdAsn) → true ≡ inConstruction seg (AS y) → wholeEdges k x y j ≡ downPeerEdge seg x (AS y) (Peering p o l i))
+    abbrev link : Link
+    link = record { local = p; ingress = o; peer = l; interface = i }
+
+    pub join-link : Apart seg → u ≡ true
+        → ((x : Vertex) (y : IsdAsn) → true ≡ inConstruction seg (AS y) → wholeEdges k x y j ≡ downPeerEdge seg x (AS y) link)
         → wholeEdges k v w j ≡ between seg v (AS w)
-    join-link q f =
-        let m : Link = record { local = p; ingress = o; peer = l; interface = i } in
-        f v w (leaf-arrives seg w true (at-leaf w test q)) ∙ to-link seg w nc n count (at-leaf w test q) v m at
+    join-link apart q f =
+        f v w (leaf-arrives seg w true (at-leaf w test q)) ∙ to-link seg w nc n count (at-leaf w test q) apart v link at
 
   module _ {a : IsdAsn} (at : v ≡ AS a) where
     pub join-to : u ≡ true

@@ -1,33 +1,33 @@
 -- The edges that the code makes of what it reads of a segment are those that it stores.
 -- Assumes nothing.
-use Prim.Native.Nat.{ℕ, suc, _+_, _-_, _≤_, _<_}
+use Prim.Native.Nat.{ℕ, _+_, _-_, _≤_, _<_}
 use native.Mathlib.Omega.{arith}
 use mathlib.Core.Path.{_≡_, refl, sym, ap, ap₂, _∙_, subst}
-use mathlib.Core.Bool.{Bool, true, false, _&&_, _||_, not, and-false}
+use mathlib.Core.Bool.{Bool, true, false, _&&_, _||_, and-false}
 use mathlib.Core.List.{List, [], _∷_}
-use lib.Dec.{ltb}
-use borrow.Author.Tests.{ltb-true, ltb-false, lt-ltb, le-ltb}
+use lib.Dec.{ltb, eqb}
+use borrow.Author.Tests.{ltb-true, ltb-false, lt-ltb, le-ltb, eq-eqb, ne-eqb}
 use Rattle.spec.specs.declared.IsdAsn.{IsdAsn}
 use Rattle.spec.specs.declared.Vertex.{Vertex}
 use Rattle.spec.specs.declared.Vertex.the-variants.{AS, Peering}
 use Rattle.spec.specs.declared.Edge.{Edge}
-use Rattle.spec.specs.Basics.{if_then_else_, any, filter, range}
-use Rattle.spec.specs.Book.{Segment, segmentAt}
-use Rattle.spec.specs.Edges.{sameAs, sameVertex, asOf, leafAs, inConstruction, edgeOf}
-use Rattle.spec.proofs.Membership.{not-both}
+use Rattle.spec.specs.Basics.{if_then_else_, filter, range}
+use Rattle.spec.specs.Book.{sameAs, Segment, segmentAt}
+use Rattle.spec.specs.Edges.{sameVertex, asOf, leafAs, inConstruction, edgeOf}
+use Rattle.spec.proofs.Membership.{true-and, not-both}
 use Rattle.spec.proofs.RouterLaws.{eqb-sym}
-use Rattle.spec.proofs.Vertices.{sameAs-eq, sameVertex-eq, eq-sameVertex}
+use Rattle.spec.proofs.Vertices.{sameAs-eq, sameVertex-eq, sameVertex-refl, eq-sameVertex}
 use Rattle.spec.proofs.OnceLaws.{any-mem, segment-position}
 use Rattle.spec.proofs.BookLaws.{mem-range}
 use Rattle.graph.specs.declared.vertices.Link.{Link}
 use Rattle.spec.specs.Chains.{leaves}
+use Rattle.spec.specs.Loopless.{Apart}
 use Rattle.graph.specs.Lookup.{hasEnds, between, leavingOf}
-use Rattle.graph.specs.Leaving.{entryCount, peerCountOf, linkOf, isEntryOf, asStands, isLink, hasLink, peerStands, asUp, peerUp}
-use Rattle.graph.specs.Scan.{joins, firstWith, lastWith, entryWith, hasAs, entryLinked, peerLinked, asEdgeAt, peerEdgeAt, downPeerEdge, coreEdge, coreEdgeFrom}
+use Rattle.graph.specs.Leaving.{joins, entryCount, peerCountOf, linkOf, isEntryOf, entryWith, hasAs, isLink, peerLinked, asEdgeAt, peerEdgeAt, downPeerEdge, coreEdge, coreEdgeFrom, peerStands, asUp, peerUp}
+use Rattle.graph.specs.Scan.{firstWith}
 use Rattle.graph.specs.Link.{endOf}
-use Rattle.graph.proofs.LookupScan.{when, any-first, first-passes, is-last}
-use Rattle.graph.proofs.LookupLaws.{up-as, down-as, down-link, no-leaf, core-as, core-peering, core-leaving, none-stored, as-eq, eq-sameAs}
-use Rattle.graph.proofs.LeavingLaws.{linked, peer-last, link-own}
+use Rattle.graph.proofs.LookupScan.{when, any-first, first-passes, last-above}
+use Rattle.graph.proofs.LookupLaws.{as-eq, eq-sameAs, sole, up-as, down-as, down-link, no-leaf, core-as, core-peering, core-leaving, none-stored}
 use Rattle.graph.proofs.OpenedReads.{leaf-is}
 
 -- two ASes and two others
@@ -53,7 +53,7 @@ module _ (b : List ℕ) (k : ℕ) where
   abbrev pub made : Vertex → Vertex → ℕ → ℕ → ℕ → Bool → Bool → Edge
   made v w weight i q c t = record { src = v; dst = w; weight = weight; shortcut = i; peer = q; position = k; construction = c; core = t }
 
-  edge-made : (v w : Vertex) (weight i q : ℕ) (c t : Bool) → c ≡ inConstruction seg w → t ≡ seg .core → made v w weight i q c t ≡ edgeOf seg v w weight i q
+  pub edge-made : (v w : Vertex) (weight i q : ℕ) (c t : Bool) → c ≡ inConstruction seg w → t ≡ seg .core → made v w weight i q c t ≡ edgeOf seg v w weight i q
   unfolding edgeOf
   edge-made v w weight i q c t p r =
       ap₂ (λ (x y : Bool). made v w weight i q x y) p r ∙ ap (λ n. place v w weight i q n) (sym (segment-position b k))
@@ -73,24 +73,31 @@ module _ (b : List ℕ) (k : ℕ) where
     pub as-none : (j : ℕ) → i ≡ j → n - 1 ≤ i → [] ≡ asEdgeAt seg v w j
     as-none j e l = as-past seg v w j (omega arith)
 
-    module _ (l : Vertex) (found : i ≡ entryLinked seg l n) where
-      same : i ≡ entryLinked seg l (entryCount seg)
-      same = found ∙ ap (entryLinked seg l) count
+    module _ (l : Link) (found : i ≡ entryWith seg (l .local) n) where
+      abbrev down : ℕ → Edge
+      down o = edgeOf seg v w (entryCount seg - 1 - o) o (peerLinked seg (endOf l) o)
 
-      pub peer-made : (q : ℕ) (c t : Bool) → q ≡ peerLinked seg l i → i < n → c ≡ inConstruction seg w → t ≡ seg .core
-          → (made v w (n - 1 - i) i q c t ∷ []) ≡ downPeerEdge seg v w l
+      down-at : when (ltb i (entryCount seg) && ltb 0 (peerLinked seg (endOf l) i)) (down i) ≡ downPeerEdge seg v w l
       unfolding downPeerEdge peerEdgeAt
-      peer-made q c t f g p s =
+      down-at =
+          ap (λ o. when (ltb o (entryCount seg) && ltb 0 (peerLinked seg (endOf l) o)) (down o)) (found ∙ ap (entryWith seg (l .local)) count)
+
+      pub peer-made : (q : ℕ) (c t : Bool) → q ≡ peerLinked seg (endOf l) i → i < n → 0 < q → c ≡ inConstruction seg w → t ≡ seg .core
+          → (made v w (n - 1 - i) i q c t ∷ []) ≡ downPeerEdge seg v w l
+      peer-made q c t f g some p s =
           ap (λ x. x ∷ []) (edge-made v w (n - 1 - i) i q c t p s)
           ∙ ap₂ (λ m o. edgeOf seg v w (m - 1 - i) i o ∷ []) count f
-          ∙ sym (ap (λ x. when x (edgeOf seg v w (entryCount seg - 1 - i) i (peerLinked seg l i))) (lt-ltb i (entryCount seg) (omega arith)))
-          ∙ ap (λ o. when (ltb o (entryCount seg)) (edgeOf seg v w (entryCount seg - 1 - o) o (peerLinked seg l o))) same
+          ∙ sym (ap (λ x. when x (down i)) (true-and (ltb i (entryCount seg)) _ (lt-ltb i (entryCount seg) (omega arith)) (lt-ltb 0 (peerLinked seg (endOf l) i) (omega arith))))
+          ∙ down-at
 
-      pub peer-none : n ≤ i → [] ≡ downPeerEdge seg v w l
-      unfolding downPeerEdge peerEdgeAt
-      peer-none g =
-          sym (ap (λ x. when x (edgeOf seg v w (entryCount seg - 1 - i) i (peerLinked seg l i))) (le-ltb i (entryCount seg) (omega arith)))
-          ∙ ap (λ o. when (ltb o (entryCount seg)) (edgeOf seg v w (entryCount seg - 1 - o) o (peerLinked seg l o))) same
+      pub peer-past : n ≤ i → [] ≡ downPeerEdge seg v w l
+      peer-past g = sym (ap (λ x. when (x && ltb 0 (peerLinked seg (endOf l) i)) (down i)) (le-ltb i (entryCount seg) (omega arith))) ∙ down-at
+
+      pub peer-missing : (q : ℕ) → q ≡ peerLinked seg (endOf l) i → q ≤ 0 → [] ≡ downPeerEdge seg v w l
+      peer-missing q f g =
+          sym (ap (λ x. when (ltb i (entryCount seg) && x) (down i)) (le-ltb 0 (peerLinked seg (endOf l) i) (omega arith))
+          ∙ ap (λ x. when x (down i)) (and-false (ltb i (entryCount seg))))
+          ∙ down-at
 
 -- ---- which edge is between two vertices
 
@@ -112,14 +119,10 @@ module _ (seg : Segment) (w : IsdAsn) where
           ∙ sym (down-as seg nc a)
           ∙ ap₂ (between seg) (sym q) leaf-w
 
-      pub to-link : (v : Vertex) (m : Link) → v ≡ Peering (m .peer) (m .interface) (m .local) (m .ingress)
-          → downPeerEdge seg v (AS w) (endOf m) ≡ between seg v (AS w)
-      unfolding downPeerEdge
-      to-link v m q =
-          let i : ℕ = entryLinked seg (endOf m) (entryCount seg) in
-          ap₂ (λ x y. peerEdgeAt seg x y (entryCount seg - 1 - i) i (peerLinked seg (endOf m) i)) q (sym leaf-w)
-          ∙ sym (down-link seg nc (m .local) (m .peer) (m .ingress) (m .interface) i refl)
-          ∙ ap₂ (between seg) (sym q) leaf-w
+      pub to-link : Apart seg → (v : Vertex) (m : Link) → v ≡ Peering (m .peer) (m .interface) (m .local) (m .ingress)
+          → downPeerEdge seg v (AS w) m ≡ between seg v (AS w)
+      to-link apart v m q =
+          ap (λ x. downPeerEdge seg v x m) (sym leaf-w) ∙ sym (down-link seg nc apart m v q) ∙ ap (between seg v) leaf-w
 
     -- to another AS
     module _ (away : sameAs (leafAs seg) w ≡ false) where
@@ -274,122 +277,51 @@ module _ (b : List ℕ) (k : ℕ) (core : segmentAt b k .core ≡ true) {n : ℕ
 -- ---- up from the leaf
 
 module _ (seg : Segment) (i : ℕ) where
-  stands-as : asStands seg i ≡ (ltb i (entryCount seg - 1) && not (ltb (entryWith seg (asOf seg i) i) i))
-  unfolding asStands entryWith
-  stands-as =
-      let e : 0 + i ≡ i = omega arith in
-      ap (λ x. ltb i (entryCount seg - 1) && not x)
-      (any-first (isEntryOf seg (asOf seg i)) 0 i ∙ ap (ltb (firstWith (isEntryOf seg (asOf seg i)) 0 i)) e)
-
-  fallen : asStands seg i ≡ false → [] ≡ asUp seg i
-  unfolding asUp
-  fallen h = sym (ap (λ x. when x (edgeOf seg (AS (leafAs seg)) (AS (asOf seg i)) (entryCount seg - 1 - i) i 0)) h)
-
-  pub leaf-falls : {n : ℕ} → n ≡ entryCount seg → i ≡ n - 1 → asStands seg i ≡ false
-  leaf-falls count h = stands-as ∙ ap (λ x. x && not (ltb (entryWith seg (asOf seg i) i) i)) (le-ltb i (entryCount seg - 1) (omega arith))
-
-  pub again-falls : {x : IsdAsn} {j : ℕ} → x ≡ asOf seg i → j ≡ entryWith seg x i → j < i → asStands seg i ≡ false
-  again-falls here found h =
-      let e = found ∙ ap (λ y. entryWith seg y i) here in
-      stands-as ∙ ap (λ x. ltb i (entryCount seg - 1) && not x) (lt-ltb (entryWith seg (asOf seg i) i) i (omega arith)) ∙ and-false (ltb i (entryCount seg - 1))
-
   pub up-leaf : {n : ℕ} → n ≡ entryCount seg → i ≡ n - 1 → [] ≡ asUp seg i
-  up-leaf count h = fallen (leaf-falls count h)
+  unfolding asUp
+  up-leaf count h = as-past seg (AS (leafAs seg)) (AS (asOf seg i)) i (omega arith)
 
-  pub up-again : {x : IsdAsn} {j : ℕ} → x ≡ asOf seg i → j ≡ entryWith seg x i → j < i → [] ≡ asUp seg i
-  up-again here found h = fallen (again-falls here found h)
-
-  pub as-stands : {x : IsdAsn} {j : ℕ} → i < entryCount seg - 1 → x ≡ asOf seg i → j ≡ entryWith seg x i → i ≤ j → asStands seg i ≡ true
-  as-stands below here found h =
-      let e = found ∙ ap (λ y. entryWith seg y i) here in
-      stands-as ∙ ap₂ (λ x y. x && not y) (lt-ltb i (entryCount seg - 1) below) (le-ltb (entryWith seg (asOf seg i) i) i (omega arith))
-
-pub below-leaf : (i n : ℕ) → i < n → (i ≡ n - 1 → ⊥) → i < n - 1
-below-leaf i n l h = go (ltb i (n - 1)) refl
-  where
-    go : (x : Bool) → ltb i (n - 1) ≡ x → i < n - 1
-    go true q = ltb-true i (n - 1) q
-    go false q = let g = ltb-false i (n - 1) q in absurd (h (omega arith))
+  -- an entry below the leaf has another AS
+  pub below-apart : Apart seg → i < entryCount seg - 1 → sameAs (leafAs seg) (asOf seg i) ≡ false
+  below-apart apart l = go (sameAs (leafAs seg) (asOf seg i)) refl
+    where
+      go : (x : Bool) → sameAs (leafAs seg) (asOf seg i) ≡ x → x ≡ false
+      go true q =
+          let e : entryCount seg - 1 ≡ i = sole seg apart _ _ (omega arith) (omega arith) (leaf-is seg ∙ sameAs-eq _ _ q) in
+          absurd (omega arith)
+      go false q = refl
 
 module _ (b : List ℕ) (k i : ℕ) {n : ℕ} (count : n ≡ entryCount (segmentAt b k)) {leaf : IsdAsn} (last : leaf ≡ leafAs (segmentAt b k)) where
-  pub up-made : {x : IsdAsn} {j : ℕ} {u t : Bool} → i < n → (i ≡ n - 1 → ⊥) → x ≡ asOf (segmentAt b k) i → j ≡ entryWith (segmentAt b k) x i → i ≤ j
-      → u ≡ sameAs x leaf → t ≡ segmentAt b k .core → (made b k (AS leaf) (AS x) (n - 1 - i) i 0 u t ∷ []) ≡ asUp (segmentAt b k) i
+  pub up-made : Apart (segmentAt b k) → {x : IsdAsn} {t : Bool} → i < n → (i ≡ n - 1 → ⊥) → x ≡ asOf (segmentAt b k) i → t ≡ segmentAt b k .core
+      → (made b k (AS leaf) (AS x) (n - 1 - i) i 0 false t ∷ []) ≡ asUp (segmentAt b k) i
   unfolding asUp
-  up-made {x} {j} {u} {t} below other here found h arrives core =
-      ap (λ e. e ∷ []) (edge-made b k (AS leaf) (AS x) (n - 1 - i) i 0 u t (arrives ∙ ap (sameAs x) last ∙ construction x) core)
-      ∙ ap₂ (λ y z. edgeOf (segmentAt b k) (AS y) (AS z) (n - 1 - i) i 0 ∷ []) last here
-      ∙ ap (λ m. edgeOf (segmentAt b k) (AS (leafAs (segmentAt b k))) (AS (asOf (segmentAt b k) i)) (m - 1 - i) i 0 ∷ []) count
-      ∙ sym (ap (λ y. when y (edgeOf (segmentAt b k) (AS (leafAs (segmentAt b k))) (AS (asOf (segmentAt b k) i)) (entryCount (segmentAt b k) - 1 - i) i 0)) stands)
-    where
-      construction : (x : IsdAsn) → sameAs x (leafAs (segmentAt b k)) ≡ inConstruction (segmentAt b k) (AS x)
-      construction x = unfold inConstruction sameVertex in refl
-
-      low : i < entryCount (segmentAt b k) - 1
-      low = below-leaf i (entryCount (segmentAt b k)) (subst (λ m. i < m) count below) (λ q. other (q ∙ ap (λ m. m - 1) (sym count)))
-
-      stands : asStands (segmentAt b k) i ≡ true
-      stands = as-stands (segmentAt b k) i low here found h
+  up-made apart {x} {t} below other here core =
+      let low : i < n - 1 = omega arith in
+      as-made b k (AS leaf) (AS x) n i count i false t refl low
+      (leaf-arrives (segmentAt b k) x false (ap (sameAs (leafAs (segmentAt b k))) here ∙ below-apart (segmentAt b k) i apart (subst (λ m. i < m - 1) count low))) core
+      ∙ ap₂ (λ y z. asEdgeAt (segmentAt b k) (AS y) (AS z) i) last here
 
 -- ---- up from the leaf to a peering end
 
 module _ (seg : Segment) (i p : ℕ) (l : p < peerCountOf seg i) where
   -- a peer has its own link
   pub link-some : {v : Vertex} {q : ℕ} → v ≡ linkOf seg i p → q ≡ peerLinked seg v i → 1 ≤ q
-  link-some here found = above (found ∙ ap (λ u. peerLinked seg u i) here)
-    where
-      own : hasLink seg (linkOf seg i p) i ≡ true
-      own = unfold hasLink in any-mem (isLink seg (linkOf seg i p) i) (range 0 (peerCountOf seg i)) (mem-range 0 (peerCountOf seg i) p (omega arith) (omega arith)) (link-own seg i p)
-
-      above : {q : ℕ} → q ≡ peerLinked seg (linkOf seg i p) i → 1 ≤ q
-      above e = let h = ltb-true 0 (peerLinked seg (linkOf seg i p) i) (sym (linked seg (linkOf seg i p) i) ∙ own) in omega arith
-
-  abbrev later : Bool
-  later = any (isLink seg (linkOf seg i p) i) (range (p + 1) (peerCountOf seg i - (p + 1)))
-
-  abbrev lower : Bool
-  lower = any (hasLink seg (linkOf seg i p)) (range 0 i)
-
-  peer-fallen : peerStands seg i p ≡ false → [] ≡ peerUp seg i p
-  unfolding peerUp
-  peer-fallen h = sym (ap (λ x. when x (edgeOf seg (AS (leafAs seg)) (linkOf seg i p) (entryCount seg - i) i (p + 1))) h)
+  unfolding peerLinked isLink
+  link-some here found =
+      let own : p < peerLinked seg (linkOf seg i p) i = last-above (isLink seg (linkOf seg i p) i) p (peerCountOf seg i) l (sameVertex-refl (linkOf seg i p)) in
+      omega (arith, found ∙ ap (λ u. peerLinked seg u i) here)
 
   pub up-later : {v : Vertex} {q : ℕ} → v ≡ linkOf seg i p → q ≡ peerLinked seg v i → (q - 1 ≡ p → ⊥) → [] ≡ peerUp seg i p
-  unfolding peerStands
-  up-later here found h = peer-fallen (go later refl)
-    where
-      go : (x : Bool) → later ≡ x → peerStands seg i p ≡ false
-      go true e = ap (λ x. not x && not lower) e
-      go false e = absurd (h (omega (arith, found ∙ ap (λ u. peerLinked seg u i) here, peer-last seg i p l e)))
+  unfolding peerUp peerStands
+  up-later here found h =
+      sym (ap (λ x. when x (edgeOf seg (AS (leafAs seg)) (linkOf seg i p) (entryCount seg - i) i (p + 1)))
+      (ne-eqb (peerLinked seg (linkOf seg i p) i) (p + 1) (λ e. h (omega (arith, found ∙ ap (λ u. peerLinked seg u i) here)))))
 
-  pub up-lower : {v : Vertex} {j : ℕ} → v ≡ linkOf seg i p → j ≡ entryLinked seg v i → j < i → [] ≡ peerUp seg i p
-  unfolding peerStands entryLinked
-  up-lower here found h = peer-fallen (go later)
-    where
-      some : lower ≡ true
-      some =
-          let e : 0 + i ≡ i = omega arith in
-          any-first (hasLink seg (linkOf seg i p)) 0 i
-          ∙ lt-ltb (firstWith (hasLink seg (linkOf seg i p)) 0 i) (0 + i) (omega (arith, found ∙ ap (λ u. firstWith (hasLink seg u) 0 i) here))
-
-      go : (x : Bool) → (not x && not lower) ≡ false
-      go true = refl
-      go false = ap not some
-
-  peer-stands : {v : Vertex} {q j : ℕ} → v ≡ linkOf seg i p → q ≡ peerLinked seg v i → q ≡ suc p → j ≡ entryLinked seg v i → i ≤ j → peerStands seg i p ≡ true
-  unfolding peerStands entryLinked peerLinked
-  peer-stands here found own first h =
-      ap₂ (λ x y. not x && not y)
-      (is-last (isLink seg (linkOf seg i p) i) p (peerCountOf seg i) l (ap (λ u. lastWith (isLink seg u i) (peerCountOf seg i)) (sym here) ∙ sym found ∙ own))
-      (any-first (hasLink seg (linkOf seg i p)) 0 i
-      ∙ le-ltb (firstWith (hasLink seg (linkOf seg i p)) 0 i) (0 + i) (omega (arith, first ∙ ap (λ u. firstWith (hasLink seg u) 0 i) here)))
-
-module _ (b : List ℕ) (k i p : ℕ) (g : p < peerCountOf (segmentAt b k) i) {n : ℕ} (count : n ≡ entryCount (segmentAt b k))
-    {leaf : IsdAsn} (last : leaf ≡ leafAs (segmentAt b k)) where
-  pub peer-up-made : (m : Link) {q j : ℕ} {t : Bool} → endOf m ≡ linkOf (segmentAt b k) i p → q ≡ peerLinked (segmentAt b k) (endOf m) i → 1 ≤ q → q - 1 ≡ p
-      → j ≡ entryLinked (segmentAt b k) (endOf m) i → i ≤ j → t ≡ segmentAt b k .core
-      → (made b k (AS leaf) (endOf m) (n - i) i q false t ∷ []) ≡ peerUp (segmentAt b k) i p
-  unfolding peerUp
-  peer-up-made m {q} {j} {t} here found some own first h core =
+module _ (b : List ℕ) (k i p : ℕ) {n : ℕ} (count : n ≡ entryCount (segmentAt b k)) {leaf : IsdAsn} (last : leaf ≡ leafAs (segmentAt b k)) where
+  pub peer-up-made : (m : Link) {q : ℕ} {t : Bool} → endOf m ≡ linkOf (segmentAt b k) i p → q ≡ peerLinked (segmentAt b k) (endOf m) i → 1 ≤ q → q - 1 ≡ p
+      → t ≡ segmentAt b k .core → (made b k (AS leaf) (endOf m) (n - i) i q false t ∷ []) ≡ peerUp (segmentAt b k) i p
+  unfolding peerUp peerStands
+  peer-up-made m {q} {t} here found some own core =
       ap (λ e. e ∷ []) (edge-made b k (AS leaf) (endOf m) (n - i) i q false t construction core)
       ∙ ap₂ (λ y z. edgeOf (segmentAt b k) (AS y) z (n - i) i q ∷ []) last here
       ∙ ap₂ (λ m r. edgeOf (segmentAt b k) (AS (leafAs (segmentAt b k))) (linkOf (segmentAt b k) i p) (m - i) i r ∷ []) count next
@@ -401,5 +333,5 @@ module _ (b : List ℕ) (k i p : ℕ) (g : p < peerCountOf (segmentAt b k) i) {n
       next : q ≡ p + 1
       next = omega arith
 
-      stands : peerStands (segmentAt b k) i p ≡ true
-      stands = peer-stands (segmentAt b k) i p g here found (omega arith) first h
+      stands : eqb (peerLinked (segmentAt b k) (linkOf (segmentAt b k) i p) i) (p + 1) ≡ true
+      stands = eq-eqb _ _ (ap (λ u. peerLinked (segmentAt b k) u i) (sym here) ∙ sym found ∙ next)

@@ -9,39 +9,29 @@ use mathlib.Core.Logic.{_⊎_, inl, inr, ⊎-elim}
 use mathlib.Core.Bool.{Bool, true, false, _&&_}
 use mathlib.Core.List.{List, [], _∷_, reverse, List·Memᴰ as Mem, List·Memᴰ·head as head, List·Memᴰ·tail as tail, List·Memᴰ·not-nil as not-nil, List·Memᴰ·cases-cons as cases-cons, List·Memᴰ·append-cases as append-cases}
 use lib.ListN.{length}
-use lib.Dec.{eqb}
-use borrow.Author.Tests.{eqb-true, ltb-true, ne-eqb, eq-eqb}
+use lib.Dec.{ltb, eqb}
+use borrow.Author.Tests.{eqb-true, eqb-false, eq-eqb, ltb-true, ltb-false}
 use Rattle.spec.specs.declared.IsdAsn.{IsdAsn}
 use Rattle.spec.specs.declared.Vertex.{Vertex}
 use Rattle.spec.specs.declared.Vertex.the-variants.{AS}
 use Rattle.spec.specs.declared.Edge.{Edge}
 use Rattle.spec.specs.declared.SolutionEdge.{SolutionEdge}
-use Rattle.spec.specs.Basics.{if_then_else_, range, Once}
-use Rattle.spec.specs.Book.{Segment}
-use Rattle.spec.specs.Edges.{sameAs, sameVertex, sameBool, entryOf, asOf, leafAs, inConstruction, edgeOf, asInsertions, peerInsertions, entryInsertions, insertions, storedOf}
+use Rattle.spec.specs.Basics.{range, Once}
+use Rattle.spec.specs.Book.{sameAs, Segment}
+use Rattle.spec.specs.Edges.{sameVertex, sameBool, entryOf, asOf, leafAs, inConstruction, edgeOf, asInsertions, peerInsertions, entryInsertions, insertions, storedOf}
 use Rattle.spec.specs.Order.{solutionEdge}
-use Rattle.spec.proofs.Membership.{and-true, not-both, filter-mem, mem-filter, flatMap-mem, once-filter}
+use Rattle.spec.specs.Loopless.{Apart}
+use Rattle.spec.proofs.Membership.{and-true, true-and, not-both, filter-mem, mem-filter, flatMap-mem, once-filter}
 use Rattle.spec.proofs.Vertices.{sameVertex-eq, sameVertex-refl}
 use Rattle.spec.proofs.OnceLaws.{lasting-mem, once-lasting, inserted}
-use Rattle.graph.specs.declared.edges.Found.{Found}
-use Rattle.graph.specs.declared.edges.Found.the-variants.{Edge as FoundEdge, Nothing}
-use Rattle.graph.specs.Lookup.{between, foundEdges}
-use Rattle.graph.specs.Leaving.{entryCount, peerCountOf, linkOf, asStands, peerUp}
-use Rattle.graph.specs.Scan.{entryWith, asEdgeAt}
-use Rattle.graph.specs.declared.vertices.Link.{Link}
-use Rattle.graph.specs.Link.{endOf, farEndOf}
-use Rattle.graph.specs.Identity.{sameIdentity, hasIdentity, identified, farLinkOf, overPeer}
-use Rattle.graph.proofs.LookupLaws.{as-not-peering, one-is, stored-between, between-stored, as-other, as-leaf, peer-two, entry-parts, insertions-other, insertions-core, core-none, up-as, down-as}
-use Rattle.graph.proofs.VertexTests.{second-fails}
-use Rattle.graph.proofs.LeavingLaws.{peer-up-mem, peer-stored, peer-given, between-mem, as-edge-one, as-first}
+use Rattle.graph.specs.Lookup.{between}
+use Rattle.graph.specs.Leaving.{entryCount, peerCountOf, linkOf, entryWith, peerLinked, asEdgeAt, peerEdgeAt, peerStands, peerUp}
+use Rattle.graph.specs.Identity.{hasIdentity, identified}
+use Rattle.graph.proofs.LookupLaws.{as-not-peering, one-is, stored-between, between-stored, as-other, as-leaf, turned, peer-two, entry-parts, entry-only, insertions-other, insertions-core, core-none, up-as, down-as, up-own, down-own}
+use Rattle.graph.proofs.LookupScan.{when}
+use Rattle.graph.proofs.LeavingLaws.{as-edge-one, peer-edge-one, peer-edge-some}
 
 -- ---- identities
-
-third-fails : (x y z u : Bool) → z ≡ false → false ≡ (((x && y) && z) && u)
-third-fails true true true u q = not-both refl q
-third-fails true true false u q = refl
-third-fails true false z u q = refl
-third-fails false y z u q = refl
 
 bool-eq : (s t : Bool) → sameBool s t ≡ true → s ≡ t
 unfolding sameBool
@@ -55,51 +45,22 @@ unfolding sameBool
 bool-refl true = refl
 bool-refl false = refl
 
-module _ (x y : SolutionEdge) where
-  pub other-position : (x .position ≡ y .position → ⊥) → false ≡ sameIdentity x y
-  unfolding sameIdentity
-  other-position q =
-      sym (ap (λ t. ((t && eqb (x .shortcut) (y .shortcut)) && eqb (x .peer) (y .peer)) && sameBool (x .construction) (y .construction)) (ne-eqb _ _ q))
-
-  pub other-shortcut : (x .shortcut ≡ y .shortcut → ⊥) → false ≡ sameIdentity x y
-  unfolding sameIdentity
-  other-shortcut q = second-fails (eqb (x .position) (y .position)) _ _ _ (ne-eqb (x .shortcut) (y .shortcut) q)
-
-  pub other-peer : (x .peer ≡ y .peer → ⊥) → false ≡ sameIdentity x y
-  unfolding sameIdentity
-  other-peer q = third-fails (eqb (x .position) (y .position)) (eqb (x .shortcut) (y .shortcut)) _ _ (ne-eqb (x .peer) (y .peer) q)
-
-  pub by-direction : x .position ≡ y .position → x .shortcut ≡ y .shortcut → x .peer ≡ y .peer
-      → {t : Bool} → t ≡ sameBool (x .construction) (y .construction) → t ≡ sameIdentity x y
-  unfolding sameIdentity
-  by-direction p q r h =
-      h
-      ∙ sym (ap (λ t. ((t && eqb (x .shortcut) (y .shortcut)) && eqb (x .peer) (y .peer)) && sameBool (x .construction) (y .construction)) (eq-eqb _ _ p)
-      ∙ ap (λ t. ((true && t) && eqb (x .peer) (y .peer)) && sameBool (x .construction) (y .construction)) (eq-eqb _ _ q)
-      ∙ ap (λ t. ((true && true) && t) && sameBool (x .construction) (y .construction)) (eq-eqb _ _ r))
-
-  identity-eq : sameIdentity x y ≡ true → x ≡ y
-  unfolding sameIdentity
-  identity-eq h =
-      let a = and-true ((eqb (x .position) (y .position) && eqb (x .shortcut) (y .shortcut)) && eqb (x .peer) (y .peer)) _ h in
-      let b = and-true (eqb (x .position) (y .position) && eqb (x .shortcut) (y .shortcut)) _ (a .0) in
-      let d = and-true (eqb (x .position) (y .position)) _ (b .0) in
-      let p : x .position ≡ y .position = eqb-true _ _ (d .0) in
-      let q : x .shortcut ≡ y .shortcut = eqb-true _ _ (d .1) in
-      let r : x .peer ≡ y .peer = eqb-true _ _ (b .1) in
-      let t : x .construction ≡ y .construction = bool-eq _ _ (a .1) in
-      λ i. record { position = p i; shortcut = q i; peer = r i; construction = t i }
-
-identity-refl : (x : SolutionEdge) → sameIdentity x x ≡ true
-identity-refl x = sym (by-direction x x refl refl refl (sym (bool-refl (x .construction))))
-
 pub has-identity : (id : SolutionEdge) (e : Edge) → hasIdentity id e ≡ true → solutionEdge e ≡ id
-unfolding hasIdentity
-has-identity id e h = identity-eq (solutionEdge e) id h
+unfolding hasIdentity solutionEdge
+has-identity id e h =
+    let a = and-true ((eqb (e .position) (id .position) && eqb (e .shortcut) (id .shortcut)) && eqb (e .peer) (id .peer)) _ h in
+    let b = and-true (eqb (e .position) (id .position) && eqb (e .shortcut) (id .shortcut)) _ (a .0) in
+    let d = and-true (eqb (e .position) (id .position)) _ (b .0) in
+    let p : e .position ≡ id .position = eqb-true _ _ (d .0) in
+    let q : e .shortcut ≡ id .shortcut = eqb-true _ _ (d .1) in
+    let r : e .peer ≡ id .peer = eqb-true _ _ (b .1) in
+    let t : e .construction ≡ id .construction = bool-eq _ _ (a .1) in
+    λ i. record { position = p i; shortcut = q i; peer = r i; construction = t i }
 
 pub own-identity : (e : Edge) → hasIdentity (solutionEdge e) e ≡ true
-unfolding hasIdentity
-own-identity e = identity-refl (solutionEdge e)
+unfolding hasIdentity solutionEdge
+own-identity e =
+    true-and _ _ (true-and _ _ (true-and _ _ (eq-eqb (e .position) _ refl) (eq-eqb (e .shortcut) _ refl)) (eq-eqb (e .peer) _ refl)) (bool-refl (e .construction))
 
 -- ---- lists
 
@@ -128,7 +89,7 @@ module _ (seg : Segment) where
 
   abbrev downEnd : ℕ → ℕ → Vertex
   downEnd i zero = AS (asOf seg i)
-  downEnd i (suc p) = farLinkOf seg i p
+  downEnd i (suc p) = turned seg i p
 
   data Shape (e : Edge) : Type 0 where
     up : (a i q : ℕ) → e ≡ edgeOf seg leaf (upEnd i q) a i q → Shape e
@@ -153,10 +114,9 @@ module _ (seg : Segment) where
       go (no h) = ⊎-elim (λ q. up _ i 0 q) (λ q. down _ i 0 q) (two _ _ (subst (Mem e) (as-other seg i h) m))
 
   peer-shape : (i p : ℕ) {e : Edge} → Mem e (peerInsertions seg i p) → Shape e
-  unfolding farLinkOf
   peer-shape i p {e} m =
       ⊎-elim (λ q. up (entryCount seg - i) i (suc p) (q ∙ ap (edgeOf seg leaf (linkOf seg i p) (entryCount seg - i) i) (add-one p)))
-      (λ q. down (entryCount seg - 1 - i) i (suc p) (q ∙ ap (edgeOf seg (farLinkOf seg i p) leaf (entryCount seg - 1 - i) i) (add-one p)))
+      (λ q. down (entryCount seg - 1 - i) i (suc p) (q ∙ ap (edgeOf seg (turned seg i p) leaf (entryCount seg - 1 - i) i) (add-one p)))
       (two _ _ (subst (Mem e) (peer-two seg i p) m))
 
   entry-shape : (i : ℕ) {e : Edge} → Mem e (entryInsertions seg i) → Shape e
@@ -282,9 +242,6 @@ module _ (seg : Segment) where
   -- ---- AS edges
 
   module _ (id : SolutionEdge) (no-peer : id .peer ≡ 0) where
-    abbrev here : Vertex
-    here = AS (asOf seg (id .shortcut))
-
     as-ends : {t : Bool} → id .construction ≡ t → {e : Edge} → Mem e (storedOf seg) → solutionEdge e ≡ id → Ends (id .shortcut) 0 t e
     as-ends d {e} m q =
         subst (λ t. Ends (id .shortcut) 0 t e) d (subst (λ p. Ends (id .shortcut) p (id .construction) e) no-peer (begins-and-arrives id m q))
@@ -297,97 +254,92 @@ module _ (seg : Segment) where
         (inserted seg (stored-inserted m) .direction ∙ ap (inConstruction seg) (as-ends d m q .1) ∙ (unfold inConstruction sameVertex in h))
         (said id e q .2 ∙ d))
 
-    module _ (nc : seg .core ≡ false) where
-      -- the edge that an entry's AS finds is at the entry, which then stands
-      found-stands : (v w : Vertex) {e : Edge} → asEdgeAt seg v w (entryWith seg (asOf seg (id .shortcut)) (entryCount seg - 1)) ≡ e ∷ []
-          → e .shortcut ≡ id .shortcut → asStands seg (id .shortcut) ≡ true
-      unfolding edgeOf
-      found-stands v w {e} h s =
-          let r : ℕ = entryWith seg (asOf seg (id .shortcut)) (entryCount seg - 1) in
-          let x = as-edge-one seg v w r h in
-          let p : r ≡ id .shortcut = sym (ap (λ (y : Edge). y .shortcut) (x .1)) ∙ s in
-          subst (λ j. asStands seg j ≡ true) p (as-first seg (asOf seg (id .shortcut)) r refl (ltb-true _ _ (x .0)) .1)
+  -- an edge of the segment has an identity
+  edge-identity : (id : SolutionEdge) → seg .position ≡ id .position → (v w : Vertex) (a i q : ℕ) → i ≡ id .shortcut → q ≡ id .peer
+      → inConstruction seg w ≡ id .construction → solutionEdge (edgeOf seg v w a i q) ≡ id
+  unfolding solutionEdge edgeOf
+  edge-identity id at v w a i q s p d = λ j. record { position = at j; shortcut = s j; peer = p j; construction = d j }
 
-      pub fallen-none : asStands seg (id .shortcut) ≡ false → [] ≡ identified seg id
-      fallen-none f = none-identified id (λ e m q. not-both (stands e m q (id .construction) refl) f)
+  -- ---- the edges of a non-core segment
+
+  module _ (nc : seg .core ≡ false) (id : SolutionEdge) where
+    abbrev i : ℕ
+    i = id .shortcut
+
+    -- the leaf has no AS edges
+    pub leaf-none : id .peer ≡ 0 → i ≡ entryCount seg - 1 → [] ≡ identified seg id
+    leaf-none no-peer h = none-identified id (λ e m q. omega (arith, said id e q .0, below e m q (id .construction) refl))
+      where
+        found-below : (v w : Vertex) (r : ℕ) {e : Edge} → asEdgeAt seg v w r ≡ e ∷ [] → e .shortcut < entryCount seg - 1
+        found-below v w r q =
+            let x = as-edge-one seg v w r q in
+            unfold edgeOf in omega (arith, ltb-true r (entryCount seg - 1) (x .0), ap (λ (y : Edge). y .shortcut) (x .1))
+
+        below : (e : Edge) → Mem e (storedOf seg) → solutionEdge e ≡ id → (t : Bool) → id .construction ≡ t → e .shortcut < entryCount seg - 1
+        below e m q true d =
+            let x = as-ends id no-peer d m q in
+            found-below (AS (asOf seg i)) leaf _ (sym (down-as seg nc (asOf seg i)) ∙ sym (ap₂ (between seg) (x .0) (x .1)) ∙ stored-between seg e m)
+        below e m q false d =
+            let x = as-ends id no-peer d m q in
+            found-below leaf (AS (asOf seg i)) _ (sym (up-as seg nc (asOf seg i)) ∙ sym (ap₂ (between seg) (x .0) (x .1)) ∙ stored-between seg e m)
+
+    module _ (apart : Apart seg) (at : seg .position ≡ id .position) (within : i < entryCount seg) where
+      -- an AS edge, by its ends
+      pub as-named : id .peer ≡ 0 → (v w : Vertex) → between seg v w ≡ asEdgeAt seg v w (entryWith seg (asOf seg i) (entryCount seg - 1))
+          → (i < entryCount seg - 1 → inConstruction seg w ≡ id .construction) → asEdgeAt seg v w i ≡ identified seg id
+      as-named no-peer v w between-is direction = go (ltb i (entryCount seg - 1)) refl
         where
-          stands : (e : Edge) → Mem e (storedOf seg) → solutionEdge e ≡ id → (t : Bool) → id .construction ≡ t → asStands seg (id .shortcut) ≡ true
-          stands e m q true d =
-              let x = as-ends d m q in
-              found-stands here leaf (sym (down-as seg nc (asOf seg (id .shortcut))) ∙ sym (ap₂ (between seg) (x .0) (x .1)) ∙ stored-between seg e m) (said id e q .0)
-          stands e m q false d =
-              let x = as-ends d m q in
-              found-stands leaf here (sym (up-as seg nc (asOf seg (id .shortcut))) ∙ sym (ap₂ (between seg) (x .0) (x .1)) ∙ stored-between seg e m) (said id e q .0)
+          by : (t : Bool) → ltb i (entryCount seg - 1) ≡ t → asEdgeAt seg v w i ≡ when t (edgeOf seg v w (entryCount seg - 1 - i) i 0)
+          by t q = unfold asEdgeAt in ap (λ x. when x (edgeOf seg v w (entryCount seg - 1 - i) i 0)) q
 
-  -- ---- peers' edges
+          go : (t : Bool) → ltb i (entryCount seg - 1) ≡ t → asEdgeAt seg v w i ≡ identified seg id
+          go true q =
+              let l = ltb-true i (entryCount seg - 1) q in
+              by true q
+              ∙ between-identified id v w (edgeOf seg v w (entryCount seg - 1 - i) i 0)
+              (sym (between-is ∙ ap (asEdgeAt seg v w) (entry-only seg apart (asOf seg i) i (entryCount seg - 1) l (omega arith) refl) ∙ by true q))
+              (edge-identity id at v w (entryCount seg - 1 - i) i 0 refl (sym no-peer) (direction l))
+          go false q = let l = ltb-false i (entryCount seg - 1) q in by false q ∙ leaf-none no-peer (omega arith)
 
-  module _ (nc : seg .core ≡ false) (i p : ℕ) where
-    peers-stored : i < entryCount seg → p < peerCountOf seg i → (t : Bool) {e : Edge} → Mem e (overPeer seg i p t) → Mem e (storedOf seg)
-    unfolding overPeer
-    peers-stored l g true m = between-stored seg (farLinkOf seg i p) leaf m .0
-    peers-stored l g false {e} m =
-        let w = peer-up-mem seg i p m in
-        between-stored seg leaf (linkOf seg i p) (subst (Mem e) (sym (peer-stored seg nc i p l g (w .0))) (head (w .1))) .0
+      -- a peer's edge: what is stored between its ends is that of the last peer of the entry with its link
+      module _ (p : ℕ) (some : id .peer ≡ p + 1) where
+        peer-ends : {t : Bool} → id .construction ≡ t → {e : Edge} → Mem e (storedOf seg) → solutionEdge e ≡ id → Ends i (suc p) t e
+        peer-ends d {e} m q =
+            subst (λ t. Ends i (suc p) t e) d (subst (λ n. Ends i n (id .construction) e) (some ∙ add-one p) (begins-and-arrives id m q))
 
-    stored-peers : (t : Bool) {e : Edge} → Mem e (storedOf seg) → e .shortcut ≡ i → e .peer ≡ p + 1 → Ends i (suc p) t e → Mem e (overPeer seg i p t)
-    unfolding overPeer
-    stored-peers true m s q x = between-mem seg (farLinkOf seg i p) leaf m (x .0) (x .1)
-    stored-peers false m s q x = peer-given seg nc i p m (x .0) s q
+        peer-named : (v w : Vertex) (weight : ℕ) → between seg v w ≡ peerEdgeAt seg v w weight i (peerLinked seg (linkOf seg i p) i)
+            → inConstruction seg w ≡ id .construction → ((e : Edge) → Mem e (storedOf seg) → solutionEdge e ≡ id → (e .src ≡ v) × (e .dst ≡ w))
+            → when (peerStands seg i p) (edgeOf seg v w weight i (p + 1)) ≡ identified seg id
+        peer-named v w weight between-is direction own = go (peerStands seg i p) refl
+          where
+            stands : {t : Bool} → peerStands seg i p ≡ t → eqb (peerLinked seg (linkOf seg i p) i) (p + 1) ≡ t
+            stands q = unfold peerStands in q
 
-  abbrev peer-either : ℕ → ℕ → Bool → List Edge
-  peer-either i p t = if t then between seg (farLinkOf seg i p) leaf else peerUp seg i p
+            peer-is : {e : Edge} → e ≡ edgeOf seg v w weight i (peerLinked seg (linkOf seg i p) i) → e .peer ≡ peerLinked seg (linkOf seg i p) i
+            peer-is q = unfold edgeOf in ap (λ (y : Edge). y .peer) q
 
-  far-end : (i p : ℕ) (m : Link) → endOf m ≡ linkOf seg i p → farEndOf m ≡ farLinkOf seg i p
-  unfolding linkOf farLinkOf
-  far-end i p m q = cc
+            go : (t : Bool) → peerStands seg i p ≡ t → when t (edgeOf seg v w weight i (p + 1)) ≡ identified seg id
+            go true q =
+                between-identified id v w (edgeOf seg v w weight i (p + 1))
+                (sym (between-is ∙ ap (peerEdgeAt seg v w weight i) (eqb-true _ _ (stands q)) ∙ peer-edge-some seg v w weight i (p + 1) within (omega arith)))
+                (edge-identity id at v w weight i (p + 1) refl (sym some) direction)
+            go false q =
+                none-identified id (λ e m r.
+                let x = own e m r in
+                let y = peer-edge-one seg v w weight i _ (sym between-is ∙ sym (ap₂ (between seg) (x .0) (x .1)) ∙ stored-between seg e m) in
+                eqb-false _ _ (stands q) (sym (peer-is (y .2)) ∙ said id e r .1 ∙ some))
 
-  pub peer-down : (i p : ℕ) (m : Link) {last : IsdAsn} {t : Bool} → last ≡ leafAs seg → endOf m ≡ linkOf seg i p → t ≡ true
-      → between seg (farEndOf m) (AS last) ≡ overPeer seg i p t
-  unfolding overPeer
-  peer-down i p m r q h = ap₂ (λ v w. between seg v (AS w)) (far-end i p m q) r ∙ ap (peer-either i p) (sym h)
+        pub peer-up-named : id .construction ≡ false → peerUp seg i p ≡ identified seg id
+        unfolding peerUp
+        peer-up-named back =
+            peer-named leaf (linkOf seg i p) (entryCount seg - i) (up-own seg nc apart i p within) (against ∙ sym back) (λ e m q. peer-ends back m q)
+          where
+            against : inConstruction seg (linkOf seg i p) ≡ false
+            against = unfold inConstruction sameVertex linkOf in refl
 
-  pub peer-up : (i p : ℕ) {t : Bool} → t ≡ false → peerUp seg i p ≡ overPeer seg i p t
-  unfolding overPeer
-  peer-up i p h = ap (peer-either i p) (sym h)
-
-  found-in : {f : Found} {e : Edge} → f ≡ FoundEdge e → foundEdges f ≡ e ∷ []
-  found-in q = unfold foundEdges in ap foundEdges q
-
-  module _ (id : SolutionEdge) (nc : seg .core ≡ false) (l : id .shortcut < entryCount seg) (some : 0 < id .peer) (few : id .peer ≤ peerCountOf seg (id .shortcut)) where
-    abbrev named : List Edge
-    named = overPeer seg (id .shortcut) (id .peer - 1) (id .construction)
-
-    named-stored : {e : Edge} → Mem e named → Mem e (storedOf seg)
-    named-stored m = peers-stored nc (id .shortcut) (id .peer - 1) l (omega arith) (id .construction) m
-
-    identified-named : {e : Edge} → Mem e (identified seg id) → Mem e named
-    identified-named {e} m =
-        let w = identified-mem id m in
-        let s = said id e (w .1) in
-        let q : id .peer ≡ suc (id .peer - 1) = omega arith in
-        stored-peers nc (id .shortcut) (id .peer - 1) (id .construction) (w .0) (s .0) (omega (arith, s .1))
-        (subst (λ p. Ends (id .shortcut) p (id .construction) e) q (begins-and-arrives id (w .0) (w .1)))
-
-    module _ {f : Found} (found : foundEdges f ≡ named) where
-      pub found-nothing : f ≡ Nothing → [] ≡ identified seg id
-      found-nothing q =
-          sym (none-in (identified seg id) (λ e m. not-nil (subst (Mem e) (sym found ∙ none) (identified-named m))))
-        where
-          none : foundEdges f ≡ []
-          none = unfold foundEdges in ap foundEdges q
-
-      module _ {e : Edge} (at : f ≡ FoundEdge e) {x : SolutionEdge} (own : x ≡ solutionEdge e) {t : Bool} (same : t ≡ sameIdentity x id) where
-        has : t ≡ hasIdentity id e
-        unfolding hasIdentity
-        has = same ∙ ap (λ y. sameIdentity y id) own
-
-        pub found-same : t ≡ true → e ∷ [] ≡ identified seg id
-        found-same h =
-            sym (subst (λ d. identified seg d ≡ e ∷ []) (has-identity id e (sym has ∙ h))
-            (stored-identified e (named-stored (subst (Mem e) (sym (found-in at) ∙ found) (head refl)))))
-
-        pub found-other : t ≡ false → [] ≡ identified seg id
-        found-other h =
-            sym (none-in (identified seg id) (λ g m.
-            let q : g ≡ e = ⊎-elim (λ q. q) (λ l. absurd (not-nil l)) (cases-cons (subst (Mem g) (sym found ∙ found-in at) (identified-named m))) in
-            not-both (ap (hasIdentity id) (sym q) ∙ (unfold identified in filter-mem (hasIdentity id) (storedOf seg) m .1)) (sym has ∙ h)))
+        pub peer-down-named : id .construction ≡ true → when (peerStands seg i p) (edgeOf seg (turned seg i p) leaf (entryCount seg - 1 - i) i (p + 1)) ≡ identified seg id
+        peer-down-named forth =
+            peer-named (turned seg i p) leaf (entryCount seg - 1 - i) (down-own seg nc apart i p within) (along ∙ sym forth) (λ e m q. peer-ends forth m q)
+          where
+            along : inConstruction seg leaf ≡ true
+            along = unfold inConstruction in sameVertex-refl leaf

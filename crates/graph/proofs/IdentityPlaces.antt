@@ -3,20 +3,20 @@
 use Prim.Native.Nat.{ℕ, _+_, _-_, _≤_, _<_}
 use native.Mathlib.Omega.{arith}
 use mathlib.Core.Path.{_≡_, refl, sym, ap, ap₂, _∙_}
-use mathlib.Core.Bool.{Bool, true, false, false≢true}
+use mathlib.Core.Bool.{Bool, true, false, _&&_, false≢true}
 use mathlib.Core.List.{List, [], _++_, append-nil, List·Memᴰ as Mem}
+use lib.Dec.{eqb}
+use borrow.Author.Tests.{ne-eqb}
 use Rattle.spec.specs.declared.Edge.{Edge}
 use Rattle.spec.specs.declared.SolutionEdge.{SolutionEdge}
 use Rattle.spec.specs.Basics.{filter}
 use Rattle.spec.specs.Book.{Segment, segments, segmentAt, segmentCount}
-use Rattle.spec.specs.Edges.{insertions, isFirst, firsts, storedOf, storedEdges}
-use Rattle.spec.specs.Order.{solutionEdge}
+use Rattle.spec.specs.Edges.{sameBool, insertions, isFirst, firsts, storedOf, storedEdges}
 use Rattle.spec.proofs.OnceLaws.{inserted, lasting-mem, segment-position}
 use Rattle.graph.specs.Leaving.{entryCount}
 use Rattle.graph.specs.Identity.{hasIdentity, identified, identifiedIn}
 use Rattle.graph.specs.Search.{overFirsts}
 use Rattle.graph.proofs.LookupLaws.{none-stored}
-use Rattle.graph.proofs.IdentityLaws.{other-position}
 use Rattle.graph.proofs.SearchLists.{filter-append, filter-same, through}
 use Rattle.graph.proofs.SearchLaws.{over-firsts, over-turn, over-skip, over-split, over-none}
 
@@ -32,8 +32,9 @@ module _ (b : List ℕ) (id : SolutionEdge) where
 
   -- an edge of another position has another identity
   other-edge : (e : Edge) → (e .position ≡ id .position → ⊥) → hasIdentity id e ≡ false
-  unfolding hasIdentity solutionEdge
-  other-edge e n = sym (other-position (solutionEdge e) id n)
+  unfolding hasIdentity
+  other-edge e n =
+      ap (λ t. ((t && eqb (e .shortcut) (id .shortcut)) && eqb (e .peer) (id .peer)) && sameBool (e .construction) (id .construction)) (ne-eqb (e .position) (id .position) n)
 
   elsewhere : (k : ℕ) → (k ≡ id .position → ⊥) → those (segmentAt b k) ≡ []
   unfolding identified storedOf

@@ -56,7 +56,7 @@ module _ (b : List ℕ) (ok : verdict b ≡ Accepted) (src dst : IsdAsn) (out : 
       (λ c m. solution-length c (allowed-length c (solutions-sound sha256 b src dst c m .kinds)))
 
   same-count : length found ≡ length sorted
-  same-count = found-length b dst src sha256
+  same-count = found-length b dst ok src sha256
 
   -- more chains than slots
   list-full : (n : ℕ) (o : List ℕ) → _≡_ {A = Slots} (n, o) (pushed room (0, out) found) → room < n
@@ -66,7 +66,7 @@ module _ (b : List ℕ) (ok : verdict b ≡ Accepted) (src dst : IsdAsn) (out : 
     where
       go : Dec (length found ≤ room) → room < length sorted
       go (yes k) =
-          let q : n ≡ length found = ap (λ (st : Slots). st .0) (e ∙ pushed-all room out found (found-sized b dst src) k) in
+          let q : n ≡ length found = ap (λ (st : Slots). st .0) (e ∙ pushed-all room out found (found-sized b dst ok src) k) in
           absurd (omega arith)
       go (no k) = omega (arith, same-count)
 
@@ -92,7 +92,7 @@ module _ (b : List ℕ) (ok : verdict b ≡ Accepted) (src dst : IsdAsn) (out : 
 
   kept-length : (n : ℕ) (o : List ℕ) → _≡_ {A = Slots} (n, o) (pushed room (0, out) found) → length o ≡ length out
   kept-length n o e =
-      ap (λ (x : Slots). length (x .1)) e ∙ pushed-length room 0 out found (found-sized b dst src) (omega (arith, slots-fit (length out)))
+      ap (λ (x : Slots). length (x .1)) e ∙ pushed-length room 0 out found (found-sized b dst ok src) (omega (arith, slots-fit (length out)))
 
   pub list-count : (n : ℕ) (o : List ℕ) → _≡_ {A = Slots} (n, o) (pushed room (0, out) found) → n ≤ room
       → listing sha256 b src dst (length out)
@@ -100,7 +100,7 @@ module _ (b : List ℕ) (ok : verdict b ≡ Accepted) (src dst : IsdAsn) (out : 
   list-count n o e h =
       let few : length found ≤ room = found-all n o e h in
       let st : _≡_ {A = Slots} (n, o) (length found, flatMap solutionOctets found ++ drop (solutionSize * length found) out) =
-      e ∙ pushed-all room out found (found-sized b dst src) few in
+      e ∙ pushed-all room out found (found-sized b dst ok src) few in
       let n-is : n ≡ length found = ap (λ (x : Slots). x .0) st in
       let o-is : o ≡ flatMap solutionOctets found ++ drop (solutionSize * length found) out = ap (λ (x : Slots). x .1) st in
       let len : length o ≡ length out = kept-length n o e in
@@ -108,8 +108,8 @@ module _ (b : List ℕ) (ok : verdict b ≡ Accepted) (src dst : IsdAsn) (out : 
       let rest : List ℕ = drop (solutionSize * length found) o in
       let sorts : sortFirst (leqSlots b) (min n (slots (length o))) o ≡ flatMap solutionOctets sorted ++ rest =
       ap (λ k. sortFirst (leqSlots b) k o) count
-      ∙ sort-chains b (accepted b ok) src dst found (found-once b dst src) (found-sound b dst src) (found-complete b dst src) o
-      (ap (λ l. records (length found) l) o-is ∙ records-chains found (drop (solutionSize * length found) out) (found-sized b dst src)) in
+      ∙ sort-chains b (accepted b ok) src dst found (found-once b dst ok src) (found-sound b dst ok src) (found-complete b dst ok src) o
+      (ap (λ l. records (length found) l) o-is ∙ records-chains found (drop (solutionSize * length found) out) (found-sized b dst ok src)) in
       let n-sorted : n ≡ length sorted = n-is ∙ same-count in
       let whole : length (flatMap solutionOctets sorted ++ rest) ≡ length out =
       length-append (flatMap solutionOctets sorted) rest

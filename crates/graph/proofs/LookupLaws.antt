@@ -1,6 +1,6 @@
 -- What a segment stores between two vertices is the last insertion with these ends; and which that is.
 -- Assumes nothing.
-use Prim.Native.Nat.{ℕ, zero, suc, _+_, _-_, _≤_}
+use Prim.Native.Nat.{ℕ, zero, suc, _+_, _-_, _≤_, _<_}
 use native.Mathlib.Numerals.{add-one}
 use native.Mathlib.Decide.{ℕ-discrete}
 use native.Mathlib.Omega.{arith}
@@ -10,22 +10,25 @@ use mathlib.Core.Bool.{Bool, true, false, _&&_, _||_}
 use mathlib.Core.List.{List, [], _∷_, _++_, flatMap, reverse, List·Memᴰ as Mem, List·Memᴰ·not-nil as not-nil, List·Memᴰ·cases-cons as cases-cons}
 use lib.ListN.{length}
 use lib.Dec.{ltb}
-use borrow.Author.Tests.{le-ltb, ne-eqb, eq-eqb}
+use borrow.Author.Tests.{ltb-true, le-ltb, ne-eqb, eq-eqb}
 use Rattle.spec.specs.declared.IsdAsn.{IsdAsn}
 use Rattle.spec.specs.declared.Vertex.{Vertex}
 use Rattle.spec.specs.declared.Vertex.the-variants.{AS, Peering}
 use Rattle.spec.specs.declared.Edge.{Edge}
 use Rattle.spec.specs.Basics.{if_then_else_, any, filter, range}
-use Rattle.spec.specs.Book.{Segment}
-use Rattle.spec.specs.Edges.{sameAs, sameVertex, asOf, leafAs, peerOf, edgeOf, addCoreSegment, asInsertions, peerInsertions, entryInsertions, insertions, sameEnds, lasting, storedOf}
+use Rattle.spec.specs.Book.{sameAs, Segment}
+use Rattle.spec.specs.Edges.{sameVertex, asOf, leafAs, peerOf, edgeOf, addCoreSegment, asInsertions, peerInsertions, entryInsertions, insertions, sameEnds, lasting, storedOf}
 use Rattle.spec.specs.Chains.{leaves}
+use Rattle.spec.specs.Loopless.{Apart}
 use Rattle.spec.proofs.Membership.{and-true, true-and, not-both, filter-mem, mem-filter}
 use Rattle.spec.proofs.Lists.{reverse-range}
 use Rattle.spec.proofs.Vertices.{sameAs-eq, sameAs-refl, sameVertex-eq, eq-sameVertex}
+use Rattle.graph.specs.declared.vertices.Link.{Link}
+use Rattle.graph.specs.Link.{endOf}
 use Rattle.graph.specs.Lookup.{hasEnds, between, leavingOf}
-use Rattle.graph.specs.Leaving.{entryCount, peerCountOf, linkOf, isEntryOf, isLink, hasLink}
-use Rattle.graph.specs.Scan.{firstWith, lastWith, joins, entryWith, entryLinked, peerLinked, asEdgeAt, peerEdgeAt, coreEdge, coreEdgeFrom}
-use Rattle.graph.proofs.LookupScan.{when, orElse, orElse-nil, orElse-first, lastBy, last-append, last-two, last-one, last-none, last-some, last-entries, last-peers, any-last}
+use Rattle.graph.specs.Leaving.{entryCount, peerCountOf, linkOf, isEntryOf, isLink, joins, entryWith, peerLinked, asEdgeAt, peerEdgeAt, downPeerEdge, coreEdge, coreEdgeFrom}
+use Rattle.graph.specs.Scan.{firstWith}
+use Rattle.graph.proofs.LookupScan.{when, orElse, orElse-nil, orElse-first, lastBy, last-append, last-two, last-one, last-none, last-some, last-entries, last-peers, first-only, first-alone, last-le, last-passes}
 
 -- ---- tests
 
@@ -202,7 +205,7 @@ module _ (seg : Segment) where
   as-leaf i h = ap (λ t. if t then [] else up-edge i ∷ down-edge i ∷ []) (eq-eqb i (length (seg .entries) - 1) h)
 
   -- and those of a peer
-  abbrev turned : ℕ → ℕ → Vertex
+  abbrev pub turned : ℕ → ℕ → Vertex
   turned i p = Peering (peerOf seg i p .peer) (peerOf seg i p .interface) (asOf seg i) (peerOf seg i p .hop .ingress)
 
   abbrev up-peer : ℕ → ℕ → Edge
@@ -223,36 +226,67 @@ module _ (seg : Segment) where
   unfolding linkOf
   up-not-as i p q = as-not-peering (sym q)
 
-  -- a peer's edges against a peering end
-  module _ (local peer : IsdAsn) (ingress interface : ℕ) (i p : ℕ) where
-    up-hit : lastBy (hasEnds leaf (Peering local ingress peer interface)) (peerInsertions seg i p)
-        ≡ when (isLink seg (Peering local ingress peer interface) i p) (edgeOf seg leaf (Peering local ingress peer interface) (entryCount seg - i) i (suc p))
+  -- a peer's edges against a link
+  module _ (l : Link) (i p : ℕ) where
+    abbrev end : Vertex
+    end = endOf l
+
+    -- from the other side
+    abbrev other : Vertex
+    other = Peering (l .peer) (l .interface) (l .local) (l .ingress)
+
+    up-hit : lastBy (hasEnds leaf end) (peerInsertions seg i p) ≡ when (isLink seg end i p) (edgeOf seg leaf end (entryCount seg - i) i (suc p))
     unfolding isLink
     up-hit =
-        let end : Vertex = Peering local ingress peer interface in
         ap (lastBy (hasEnds leaf end)) (peer-two i p)
         ∙ pick-two (hasEnds leaf end) (up-peer i p) (down-peer i p) (edgeOf seg leaf end (entryCount seg - i) i (suc p)) (sameVertex (linkOf seg i p) end)
         (λ q. (edge-ends leaf end _ _ _ _ _ q ∙ ap (edgeOf seg leaf end (entryCount seg - i) i) (add-one p), eq-sameVertex _ _ (edge-between leaf end _ _ _ _ _ q .1)))
         (λ q. absurd (as-not-peering (sym (edge-between leaf end _ _ _ _ _ q .0))))
         (λ q. ap (λ x. x || hasEnds leaf end (down-peer i p)) (between-edge leaf end _ _ _ _ _ refl (sameVertex-eq _ _ q)))
 
-    down-hit : lastBy (hasEnds (Peering peer interface local ingress) leaf) (peerInsertions seg i p)
-        ≡ when (isLink seg (Peering local ingress peer interface) i p) (edgeOf seg (Peering peer interface local ingress) leaf (entryCount seg - 1 - i) i (suc p))
+    down-hit : lastBy (hasEnds other leaf) (peerInsertions seg i p) ≡ when (isLink seg end i p) (edgeOf seg other leaf (entryCount seg - 1 - i) i (suc p))
     unfolding isLink
     down-hit =
-        let end : Vertex = Peering local ingress peer interface in
-        let other : Vertex = Peering peer interface local ingress in
         ap (lastBy (hasEnds other leaf)) (peer-two i p)
         ∙ pick-two (hasEnds other leaf) (up-peer i p) (down-peer i p) (edgeOf seg other leaf (entryCount seg - 1 - i) i (suc p)) (sameVertex (linkOf seg i p) end)
         (λ q. absurd (as-not-peering (edge-between other leaf _ _ _ _ _ q .0)))
         (λ q. (edge-ends other leaf _ _ _ _ _ q ∙ ap (edgeOf seg other leaf (entryCount seg - 1 - i) i) (add-one p), eq-sameVertex _ _ (unturned (edge-between other leaf _ _ _ _ _ q .0))))
         (λ q. or-true (hasEnds other leaf (up-peer i p)) (hasEnds other leaf (down-peer i p)) (between-edge other leaf _ _ _ _ _ (turn (sameVertex-eq _ _ q)) refl))
       where
-        unturned : turned i p ≡ Peering peer interface local ingress → linkOf seg i p ≡ Peering local ingress peer interface
+        unturned : turned i p ≡ other → linkOf seg i p ≡ end
         unturned q = unfold linkOf in cc
 
-        turn : linkOf seg i p ≡ Peering local ingress peer interface → turned i p ≡ Peering peer interface local ingress
+        turn : linkOf seg i p ≡ end → turned i p ≡ other
         turn q = unfold linkOf in cc
+
+  -- ---- what a scan finds
+
+  -- the peer found
+  pub peer-is : (v : Vertex) (i p : ℕ) → peerLinked seg v i ≡ suc p → (p < peerCountOf seg i) × (linkOf seg i p ≡ v)
+  unfolding peerLinked isLink
+  peer-is v i p h =
+      (omega (arith, last-le (isLink seg v i) (peerCountOf seg i)), sameVertex-eq (linkOf seg i p) v (last-passes (isLink seg v i) (peerCountOf seg i) p h))
+
+  module _ (apart : Apart seg) where
+    pub sole : (i j : ℕ) → i < entryCount seg → j < entryCount seg → asOf seg i ≡ asOf seg j → i ≡ j
+    unfolding entryCount
+    sole = apart
+
+    -- the only entry of an AS
+    pub entry-only : (a : IsdAsn) (i n : ℕ) → i < n → n ≤ entryCount seg → asOf seg i ≡ a → entryWith seg a n ≡ i
+    unfolding entryWith isEntryOf
+    entry-only a i n l m q = first-only (isEntryOf seg a) i n l (eq-sameAs _ _ q) (λ j k h. sole j i (omega arith) (omega arith) (sameAs-eq _ _ h ∙ sym q))
+
+    -- an entry with a link is that of its AS
+    linked-entry : (l : Link) (i : ℕ) → i < entryCount seg → ltb 0 (peerLinked seg (endOf l) i) ≡ true → entryWith seg (l .local) (entryCount seg) ≡ i
+    linked-entry l i m h = go (peerLinked seg (endOf l) i) refl (ltb-true _ _ h)
+      where
+        local-is : (p : ℕ) → linkOf seg i p ≡ endOf l → asOf seg i ≡ l .local
+        local-is p q = unfold linkOf in cc
+
+        go : (q : ℕ) → peerLinked seg (endOf l) i ≡ q → 0 < peerLinked seg (endOf l) i → entryWith seg (l .local) (entryCount seg) ≡ i
+        go zero e g = absurd (omega arith)
+        go (suc p) e g = entry-only (l .local) i (entryCount seg) m (omega arith) (local-is p (peer-is (endOf l) i p e .1))
 
   module _ (t : Edge → Bool) where
     none-as : ((i : ℕ) → t (up-edge i) ≡ true → ⊥) → ((i : ℕ) → t (down-edge i) ≡ true → ⊥) → (i : ℕ) → any t (asInsertions seg i) ≡ false
@@ -356,31 +390,29 @@ module _ (seg : Segment) where
       as-between : between seg v w ≡ asEdgeAt seg v w (entryWith seg a (entryCount seg - 1))
       as-between = between-last v w seg ∙ ap (lastBy (hasEnds v w)) insertions-other ∙ as-found (entryCount seg) refl
 
-    -- edges with ends that only one of the two edges of a peer has, where the peer has a peering end
-    module _ (v w l : Vertex) (weight : ℕ → ℕ)
-        (hit : (i p : ℕ) → lastBy (hasEnds v w) (peerInsertions seg i p) ≡ when (isLink seg l i p) (edgeOf seg v w (weight i) i (suc p)))
+    -- edges with ends that only one of the two edges of a peer has, where the peer has a link
+    module _ (apart : Apart seg) (v w : Vertex) (l : Link) (weight : ℕ → ℕ)
+        (hit : (i p : ℕ) → lastBy (hasEnds v w) (peerInsertions seg i p) ≡ when (isLink seg (endOf l) i p) (edgeOf seg v w (weight i) i (suc p)))
         (none : (i : ℕ) → any (hasEnds v w) (asInsertions seg i) ≡ false) where
-      abbrev peer-edge : ℕ → Edge
-      peer-edge i = edgeOf seg v w (weight i) i (peerLinked seg l i)
+      abbrev isLinked : ℕ → Bool
+      isLinked i = ltb 0 (peerLinked seg (endOf l) i)
 
-      peer-hit : (i : ℕ) → lastBy (hasEnds v w) (entryInsertions seg i) ≡ when (hasLink seg l i) (peer-edge i)
-      unfolding hasLink peerLinked
+      abbrev peer-edge : ℕ → Edge
+      peer-edge i = edgeOf seg v w (weight i) i (peerLinked seg (endOf l) i)
+
+      peer-hit : (i : ℕ) → lastBy (hasEnds v w) (entryInsertions seg i) ≡ when (isLinked i) (peer-edge i)
+      unfolding peerLinked
       peer-hit i =
           last-peer (hasEnds v w) i (none i)
-          ∙ last-peers (hasEnds v w) (peerInsertions seg i) (isLink seg l i) (λ q. edgeOf seg v w (weight i) i q) (peerCountOf seg i) (hit i)
-          ∙ ap (λ x. when x (edgeOf seg v w (weight i) i (lastWith (isLink seg l i) (peerCountOf seg i)))) (sym (any-last (isLink seg l i) (peerCountOf seg i)))
+          ∙ last-peers (hasEnds v w) (peerInsertions seg i) (isLink seg (endOf l) i) (λ q. edgeOf seg v w (weight i) i q) (peerCountOf seg i) (hit i)
 
-      peer-found : (r : ℕ) → entryLinked seg l (entryCount seg) ≡ r → between seg v w ≡ peerEdgeAt seg v w (weight r) r (peerLinked seg l r)
-      unfolding peerEdgeAt entryLinked
+      peer-found : (r : ℕ) → entryWith seg (l .local) (entryCount seg) ≡ r → between seg v w ≡ peerEdgeAt seg v w (weight r) r (peerLinked seg (endOf l) r)
+      unfolding peerEdgeAt
       peer-found r q =
           between-last v w seg
           ∙ ap (lastBy (hasEnds v w)) insertions-other
-          ∙ last-entries (hasEnds v w) (entryInsertions seg) (hasLink seg l) peer-edge 0 (entryCount seg) (λ j k m. peer-hit j)
-          ∙ ap (λ n. when (ltb (firstWith (hasLink seg l) 0 (entryCount seg)) n) (peer-edge (firstWith (hasLink seg l) 0 (entryCount seg)))) same
-          ∙ ap (λ n. when (ltb n (entryCount seg)) (peer-edge n)) q
-        where
-          same : 0 + entryCount seg ≡ entryCount seg
-          same = omega arith
+          ∙ last-entries (hasEnds v w) (entryInsertions seg) (λ i. isLinked i) (λ i. peer-edge i) 0 (entryCount seg) (λ j k m. peer-hit j)
+          ∙ first-alone (λ i. isLinked i) r (entryCount seg) (λ i m h. sym (linked-entry apart l i m h) ∙ q) (λ i. peer-edge i)
 
     -- ---- what is stored from the leaf, and to it
 
@@ -404,31 +436,49 @@ module _ (seg : Segment) where
         (λ i p q. up-not-as i p (edge-between (AS a) leaf _ _ _ _ _ q .1))
         (λ i p q. as-not-peering (sym (edge-between (AS a) leaf _ _ _ _ _ q .0))))
 
-    -- the peering end of a peer, from its own side and from the other
-    module _ (local peer : IsdAsn) (ingress interface : ℕ) where
-      abbrev end : Vertex
-      end = Peering local ingress peer interface
-
-      abbrev other : Vertex
-      other = Peering peer interface local ingress
-
-      pub up-link : (r : ℕ) → entryLinked seg end (entryCount seg) ≡ r
-          → between seg leaf end ≡ peerEdgeAt seg leaf end (entryCount seg - r) r (peerLinked seg end r)
+    -- over a link, from its own side and from the other
+    module _ (apart : Apart seg) (l : Link) where
+      pub up-link : (r : ℕ) → entryWith seg (l .local) (entryCount seg) ≡ r
+          → between seg leaf (endOf l) ≡ peerEdgeAt seg leaf (endOf l) (entryCount seg - r) r (peerLinked seg (endOf l) r)
       up-link =
-          peer-found leaf end end (λ i. entryCount seg - i)
-          (up-hit local peer ingress interface)
-          (none-as (hasEnds leaf end)
-          (λ i q. as-not-peering (edge-between leaf end _ _ _ _ _ q .1))
-          (λ i q. as-not-peering (edge-between leaf end _ _ _ _ _ q .1)))
+          peer-found apart leaf (endOf l) l (λ i. entryCount seg - i)
+          (up-hit l)
+          (none-as (hasEnds leaf (endOf l))
+          (λ i q. as-not-peering (edge-between leaf (endOf l) _ _ _ _ _ q .1))
+          (λ i q. as-not-peering (edge-between leaf (endOf l) _ _ _ _ _ q .1)))
 
-      pub down-link : (r : ℕ) → entryLinked seg end (entryCount seg) ≡ r
-          → between seg other leaf ≡ peerEdgeAt seg other leaf (entryCount seg - 1 - r) r (peerLinked seg end r)
-      down-link =
-          peer-found other leaf end (λ i. entryCount seg - 1 - i)
-          (down-hit local peer ingress interface)
-          (none-as (hasEnds other leaf)
-          (λ i q. as-not-peering (edge-between other leaf _ _ _ _ _ q .0))
-          (λ i q. as-not-peering (edge-between other leaf _ _ _ _ _ q .0)))
+      pub down-link : (v : Vertex) → v ≡ Peering (l .peer) (l .interface) (l .local) (l .ingress) → between seg v leaf ≡ downPeerEdge seg v leaf l
+      unfolding downPeerEdge
+      down-link v e = ap (λ x. between seg x leaf) e ∙ found ∙ ap (λ x. downPeerEdge seg x leaf l) (sym e)
+        where
+          far : Vertex
+          far = Peering (l .peer) (l .interface) (l .local) (l .ingress)
+
+          found : between seg far leaf ≡ downPeerEdge seg far leaf l
+          found =
+              peer-found apart far leaf l (λ i. entryCount seg - 1 - i)
+              (down-hit l)
+              (none-as (hasEnds far leaf)
+              (λ i q. as-not-peering (edge-between far leaf _ _ _ _ _ q .0))
+              (λ i q. as-not-peering (edge-between far leaf _ _ _ _ _ q .0)))
+              _ refl
+
+    -- at a peer's own link
+    module _ (apart : Apart seg) (i p : ℕ) (within : i < entryCount seg) where
+      abbrev own : Link
+      own = record { local = asOf seg i; ingress = peerOf seg i p .hop .ingress; peer = peerOf seg i p .peer; interface = peerOf seg i p .interface }
+
+      here : entryWith seg (asOf seg i) (entryCount seg) ≡ i
+      here = entry-only apart (asOf seg i) i (entryCount seg) within (omega arith) refl
+
+      pub up-own : between seg leaf (linkOf seg i p) ≡ peerEdgeAt seg leaf (linkOf seg i p) (entryCount seg - i) i (peerLinked seg (linkOf seg i p) i)
+      unfolding linkOf
+      up-own = up-link apart own i here
+
+      pub down-own : between seg (turned i p) leaf ≡ peerEdgeAt seg (turned i p) leaf (entryCount seg - 1 - i) i (peerLinked seg (linkOf seg i p) i)
+      unfolding linkOf downPeerEdge
+      down-own =
+          down-link apart own (turned i p) refl ∙ ap (λ r. peerEdgeAt seg (turned i p) leaf (entryCount seg - 1 - r) r (peerLinked seg (endOf own) r)) here
 
     -- nothing else is stored
     pub no-leaf : (v w : Vertex) → (leaf ≡ v → ⊥) → (leaf ≡ w → ⊥) → between seg v w ≡ []

@@ -2,18 +2,19 @@
 -- Assumes nothing.
 use Prim.Native.Nat.{ℕ, zero, suc, _+_, _-_, _≤_, _<_}
 use native.Mathlib.Nat.{add-zero}
-use native.Mathlib.Numerals.{add-one}
 use native.Mathlib.Omega.{arith}
-use mathlib.Core.Path.{_≡_, refl, sym, ap, ap₂, _∙_, subst}
-use mathlib.Core.Bool.{Bool, true, false, _||_}
+use mathlib.Core.Path.{_≡_, refl, sym, ap, ap₂, _∙_}
+use mathlib.Core.Bool.{Bool, true, false, _&&_, _||_}
 use mathlib.Core.List.{List, [], _∷_, _++_, flatMap, reverse, reverse-cons, append-nil}
 use lib.ListN.{length}
 use lib.Dec.{ltb}
-use borrow.Author.Tests.{lt-ltb, le-ltb}
+use borrow.Author.Tests.{ltb-true, ltb-false, lt-ltb, le-ltb}
 use Rattle.spec.specs.declared.Edge.{Edge}
 use Rattle.spec.specs.Basics.{if_then_else_, any, range}
-use Rattle.spec.proofs.Membership.{not-both}
+use Rattle.spec.proofs.Membership.{and-true, true-and, not-both}
 use Rattle.spec.proofs.Lists.{flatMap-append, range-suc}
+use Rattle.spec.proofs.OnceLaws.{any-mem}
+use Rattle.spec.proofs.BookLaws.{mem-range}
 use Rattle.graph.specs.Scan.{firstWith, lastWith}
 
 -- ---- the first list that is not empty
@@ -187,55 +188,31 @@ module _ (p : ℕ → Bool) where
       go true h = ap (λ y. p (i + suc k) || y) (lt-ltb i (i + suc k) (omega arith)) ∙ or-true (p (i + suc k)) ∙ sym (lt-ltb i (i + suc (suc k)) (omega arith))
       go false h = ap (λ m. p m || ltb (firstWith p (i + 1) k) m) e ∙ h ∙ ap (ltb (firstWith p (i + 1) (suc k))) e′
 
-  -- numbers that do not pass are passed over
-  first-skip : (i j k : ℕ) → any p (range i j) ≡ false → firstWith p i (j + k) ≡ firstWith p (i + j) k
-  unfolding firstWith any range
-  first-skip i zero k h =
-      let e : i ≡ i + 0 = omega arith in
-      let f : 0 + k ≡ k = omega arith in
-      ap (firstWith p i) f ∙ ap (λ n. firstWith p n k) e
-  first-skip i (suc j) k h = ap (firstWith p i) e ∙ go (p i) h (first-skip (i + 1) j k)
+  -- a number that passes is found, if no other does
+  pub first-only : (j n : ℕ) → j < n → p j ≡ true → ((i : ℕ) → i < n → p i ≡ true → i ≡ j) → firstWith p 0 n ≡ j
+  first-only j n l h only =
+      let m = ltb-true _ _ (sym (any-first 0 n) ∙ any-mem p (range 0 n) (mem-range 0 n j (omega arith) (omega arith)) h) in
+      only (firstWith p 0 n) (omega arith) (first-passes 0 n m)
+
+  -- an edge by what is found is that of the only number that can pass
+  pub first-alone : (r n : ℕ) → ((i : ℕ) → i < n → p i ≡ true → i ≡ r) → (e : ℕ → Edge)
+      → when (ltb (firstWith p 0 n) (0 + n)) (e (firstWith p 0 n)) ≡ when (ltb r n && p r) (e r)
+  first-alone r n only e = go (ltb (firstWith p 0 n) (0 + n)) refl
     where
-      e : suc j + k ≡ suc (j + k)
-      e = omega arith
+      none : any p (range 0 n) ≡ false → (t : Bool) → (ltb r n && p r) ≡ t → [] ≡ when t (e r)
+      none f true q =
+          let w = and-true (ltb r n) (p r) q in
+          let l = ltb-true r n (w .0) in
+          not-both (any-mem p (range 0 n) (mem-range 0 n r (omega arith) (omega arith)) (w .1)) f
+      none f false q = refl
 
-      go : (x : Bool) → (x || any p (range (i + 1) j)) ≡ false → (any p (range (i + 1) j) ≡ false → firstWith p (i + 1) (j + k) ≡ firstWith p (i + 1 + j) k)
-          → (if x then i else firstWith p (i + 1) (j + k)) ≡ firstWith p (i + suc j) k
-      go true h ih = not-both refl h
-      go false h ih = ih h ∙ ap (λ n. firstWith p n k) (omega arith)
-
-  -- and none before the one found passes
-  first-before : (i j k : ℕ) → firstWith p i (j + k) ≡ i + j → any p (range i j) ≡ false
-  unfolding firstWith any range
-  first-before i zero k h = refl
-  first-before i (suc j) k h = go (p i) (ap (firstWith p i) (sym e) ∙ h) (first-before (i + 1) j k)
-    where
-      e : suc j + k ≡ suc (j + k)
-      e = omega arith
-
-      go : (x : Bool) → (if x then i else firstWith p (i + 1) (j + k)) ≡ i + suc j → (firstWith p (i + 1) (j + k) ≡ i + 1 + j → any p (range (i + 1) j) ≡ false)
-          → (x || any p (range (i + 1) j)) ≡ false
-      go true h ih = absurd (omega arith)
-      go false h ih = ih (h ∙ omega arith)
-
-  -- a number that passes, and none before it
-  pub first-is : (j n : ℕ) → j < n → p j ≡ true → any p (range 0 j) ≡ false → firstWith p 0 n ≡ j
-  first-is j n l h none = ap (firstWith p 0) e ∙ first-skip 0 j (suc (n - j - 1)) none ∙ ap (λ m. firstWith p m (suc (n - j - 1))) f ∙ found
-    where
-      e : n ≡ j + suc (n - j - 1)
-      e = omega arith
-
-      f : 0 + j ≡ j
-      f = omega arith
-
-      found : firstWith p j (suc (n - j - 1)) ≡ j
-      found = unfold firstWith in ap (λ x. if x then j else firstWith p (j + 1) (n - j - 1)) h
-
-  pub is-first : (j n : ℕ) → j ≤ n → firstWith p 0 n ≡ j → any p (range 0 j) ≡ false
-  is-first j n l h =
-      let e : j + (n - j) ≡ n = omega arith in
-      let f : j ≡ 0 + j = omega arith in
-      first-before 0 j (n - j) (ap (firstWith p 0) e ∙ h ∙ f)
+      go : (t : Bool) → ltb (firstWith p 0 n) (0 + n) ≡ t → when t (e (firstWith p 0 n)) ≡ when (ltb r n && p r) (e r)
+      go true q =
+          let m = ltb-true _ _ q in
+          let h = first-passes 0 n m in
+          let f = only (firstWith p 0 n) (omega arith) h in
+          ap (λ k. e k ∷ []) f ∙ sym (ap (λ x. when x (e r)) (true-and (ltb r n) (p r) (lt-ltb r n (omega arith)) (ap p (sym f) ∙ h)))
+      go false q = none (any-first 0 n ∙ q) (ltb r n && p r) refl
 
   -- ---- from above
 
@@ -262,66 +239,20 @@ module _ (p : ℕ → Bool) where
   unfolding lastWith
   last-step j q = ap (λ x. if x then suc j else lastWith p j) q
 
-  last-skip : (j k : ℕ) → any p (range j k) ≡ false → lastWith p (j + k) ≡ lastWith p j
-  unfolding any range
-  last-skip j zero h = ap (lastWith p) (omega arith)
-  last-skip j (suc k) h = go (p j) refl h (last-skip (j + 1) k)
-    where
-      go : (x : Bool) → p j ≡ x → (x || any p (range (j + 1) k)) ≡ false → (any p (range (j + 1) k) ≡ false → lastWith p (j + 1 + k) ≡ lastWith p (j + 1))
-          → lastWith p (j + suc k) ≡ lastWith p j
-      go true q h ih = not-both refl h
-      go false q h ih =
-          let e : j + suc k ≡ j + 1 + k = omega arith in
-          ap (lastWith p) e ∙ ih h ∙ ap (lastWith p) (add-one j) ∙ last-step j q
-
   last-stop : (j : ℕ) → p j ≡ true → lastWith p (suc j) ≡ suc j
   unfolding lastWith
   last-stop j q = ap (λ x. if x then suc j else lastWith p j) q
 
-  last-after : (j k : ℕ) → lastWith p (j + k) ≤ j → any p (range j k) ≡ false
-  unfolding any range
-  last-after j zero h = refl
-  last-after j (suc k) h = go (p j) refl (last-after (j + 1) k (omega (arith, g)))
+  -- what is found is no smaller than a number that passes
+  pub last-above : (j n : ℕ) → j < n → p j ≡ true → j < lastWith p n
+  unfolding lastWith
+  last-above j zero l h = absurd (omega arith)
+  last-above j (suc n) l h = go (p n) refl (ltb j n) refl (last-above j n)
     where
-      e : j + suc k ≡ j + 1 + k
-      e = omega arith
-
-      g : lastWith p (j + 1 + k) ≤ j
-      g = subst (λ n. lastWith p n ≤ j) e h
-
-      go : (x : Bool) → p j ≡ x → any p (range (j + 1) k) ≡ false → (x || any p (range (j + 1) k)) ≡ false
-      go false q none = none
-      go true q none =
-          let r : lastWith p (suc j) ≤ j = subst (λ n. n ≤ j) (last-skip (j + 1) k none ∙ ap (lastWith p) (add-one j)) g in
-          absurd (omega (arith, last-stop j q))
-
-  -- a number that passes, and none after it
-  pub last-is : (j n : ℕ) → j < n → p j ≡ true → any p (range (j + 1) (n - (j + 1))) ≡ false → lastWith p n ≡ suc j
-  last-is j n l h none =
-      let e : n ≡ j + 1 + (n - (j + 1)) = omega arith in
-      ap (lastWith p) e ∙ last-skip (j + 1) (n - (j + 1)) none ∙ ap (lastWith p) (add-one j) ∙ last-stop j h
-
-  pub is-last : (j n : ℕ) → j < n → lastWith p n ≡ suc j → any p (range (j + 1) (n - (j + 1))) ≡ false
-  is-last j n l h =
-      let e : j + 1 + (n - (j + 1)) ≡ n = omega arith in
-      last-after (j + 1) (n - (j + 1)) (omega (arith, ap (lastWith p) e))
-
-  -- some number passes just where the scan finds one
-  pub any-last : (n : ℕ) → any p (range 0 n) ≡ ltb 0 (lastWith p n)
-  any-last n = go (any p (range 0 n)) refl
-    where
-      e : 0 + n ≡ n
-      e = omega arith
-
-      go : (x : Bool) → any p (range 0 n) ≡ x → x ≡ ltb 0 (lastWith p n)
-      go true q = sym (lt-ltb 0 (lastWith p n) (above (lastWith p n) refl))
-        where
-          above : (m : ℕ) → lastWith p n ≡ m → 0 < lastWith p n
-          above zero r = not-both q (last-after 0 n (omega (arith, ap (lastWith p) e)))
-          above (suc m) r = omega arith
-      go false q =
-          let z : lastWith p 0 ≡ 0 = unfold lastWith in refl in
-          sym (le-ltb 0 (lastWith p n) (omega (arith, ap (lastWith p) e, last-skip 0 n q)))
+      go : (x : Bool) → p n ≡ x → (y : Bool) → ltb j n ≡ y → (j < n → p j ≡ true → j < lastWith p n) → j < (if x then suc n else lastWith p n)
+      go true q y r ih = omega arith
+      go false q true r ih = ih (ltb-true j n r) h
+      go false q false r ih = let m = ltb-false j n r in let e : j ≡ n = omega arith in not-both (ap p (sym e) ∙ h) q
 
 -- ---- the turns of a scan
 

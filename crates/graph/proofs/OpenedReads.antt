@@ -17,21 +17,22 @@ use Rattle.spec.specs.declared.Verdict.the-variants.{Accepted}
 use Rattle.spec.specs.Limits.{sizesSize, headSize, entrySize, peerSize, maxSegments, maxEntries}
 use Rattle.spec.specs.Basics.{if_then_else_}
 use Rattle.spec.specs.Octets.{be16}
-use Rattle.spec.specs.Book.{Segment, segmentAt, segmentCount, sizesAt, headOffset, wholeLength, verdict, entryCountAt, bodyOffset, isdAsnAt, peerCount, peerEntryAt, peerOffset, entryOffset}
-use Rattle.spec.specs.Edges.{sameAs, sameVertex, asOf, leafAs, peerOf}
+use Rattle.spec.specs.Book.{sameAs, Segment, segmentAt, segmentCount, sizesAt, headOffset, wholeLength, verdict, entryCountAt, bodyOffset, isdAsnAt, peerCount, peerEntryAt, peerOffset, entryOffset}
+use Rattle.spec.specs.Edges.{sameVertex, asOf, leafAs, peerOf}
+use Rattle.spec.specs.Loopless.{Apart}
 use Rattle.spec.proofs.Membership.{not-both}
 use Rattle.spec.proofs.BookLaws.{AcceptedBook, accepted, entry-count, segment-length}
+use Rattle.spec.proofs.LoopLaws.{apart}
 use Rattle.spec.proofs.BodyLaws.{body-end, entry-place, peer-place}
 use Rattle.book.specs.Offsets.{openTable}
 use Rattle.segment.proofs.Fitting.{position-small}
 use Rattle.book.proofs.Tables.{open-accepted, table-at, table-as, table-peers, table-peer}
 use Rattle.graph.specs.declared.vertices.Link.{Link}
-use Rattle.graph.specs.Leaving.{entryCount, peerCountOf, linkOf, isEntryOf, isLink, hasLink}
-use Rattle.graph.specs.Scan.{firstWith, lastWith, entryWith, hasAs, peerLinked}
+use Rattle.graph.specs.Leaving.{entryCount, peerCountOf, linkOf, isEntryOf, isLink, entryWith, hasAs, peerLinked}
+use Rattle.graph.specs.Scan.{firstWith, lastWith}
 use Rattle.graph.specs.Ready.{Ready}
 use Rattle.graph.specs.Link.{endOf, samePeer}
 use Rattle.graph.proofs.LookupScan.{first-more}
-use Rattle.graph.proofs.LeavingLaws.{linked}
 
 -- what `book::open` leaves of an accepted book
 pub opened-ready : (b t : List ℕ) {v : Verdict} → v ≡ verdict b → t ≡ openTable b → v ≡ Accepted → Ready b t
@@ -55,6 +56,9 @@ module _ (b t : List ℕ) (r : Ready b t) (k : ℕ) (h : k < segmentCount b) whe
 
   pub position-below : k < maxSegments
   position-below = position-small b book k h
+
+  pub ready-apart : Apart (segmentAt b k)
+  ready-apart = apart b book k h
 
   module _ (i : ℕ) (l : i < entryCount (segmentAt b k)) where
     below : i < entryCountAt b k
@@ -174,15 +178,6 @@ module _ (b t : List ℕ) (r : Ready b t) (k : ℕ) (h : k < segmentCount b) (i 
 pub entry-test : (seg : Segment) (a : IsdAsn) (i : ℕ) {x : IsdAsn} {u v : Bool} → x ≡ asOf seg i → u ≡ sameAs x a → u ≡ v → isEntryOf seg a i ≡ v
 unfolding isEntryOf
 entry-test seg a i p q s = ap (λ y. sameAs y a) (sym p) ∙ sym q ∙ s
-
--- an entry has a link: its AS is the link's, and a peer has it
-module _ (seg : Segment) (l : Link) (i : ℕ) where
-  pub link-other : {x : IsdAsn} {u : Bool} → x ≡ asOf seg i → u ≡ sameAs x (l .local) → u ≡ false → false ≡ hasLink seg (endOf l) i
-  link-other p q s =
-      ap (ltb 0) (link-none seg l i (ap (λ y. sameAs y (l .local)) (sym p) ∙ sym q ∙ s)) ∙ sym (linked seg (endOf l) i)
-
-  pub link-told : {q : ℕ} → q ≡ peerLinked seg (endOf l) i → ltb 0 q ≡ hasLink seg (endOf l) i
-  link-told p = ap (ltb 0) p ∙ sym (linked seg (endOf l) i)
 
 -- an entry below i has an AS, as a look at every entry tells
 abbrev pub hasBelow : Segment → IsdAsn → ℕ → Bool

@@ -10,13 +10,16 @@ use lib.ListN.{length}
 use Rattle.spec.specs.declared.IsdAsn.{IsdAsn}
 use Rattle.spec.specs.declared.Vertex.the-variants.{AS}
 use Rattle.spec.specs.declared.Edge.{Edge}
+use Rattle.spec.specs.declared.Verdict.the-variants.{Accepted}
 use Rattle.spec.specs.Limits.{maxEdges}
 use Rattle.spec.specs.Basics.{if_then_else_, filter, range, Once}
-use Rattle.spec.specs.Book.{Segment, segments, segmentAt, segmentCount}
-use Rattle.spec.specs.Edges.{sameAs, sameVertex, insertions, isFirst, firsts, storedOf, storedEdges}
+use Rattle.spec.specs.Book.{sameAs, Segment, segments, segmentAt, segmentCount, verdict}
+use Rattle.spec.specs.Edges.{sameVertex, insertions, isFirst, firsts, storedOf, storedEdges}
 use Rattle.spec.specs.Chains.{IsChain, allowedKinds, leaves, leaving, beginning, walks, chains}
 use Rattle.spec.specs.Order.{insertAll, solutions}
+use Rattle.spec.specs.Loopless.{Apart}
 use Rattle.spec.proofs.Membership.{filter-mem, map-mem, flatMap-mem, mem-flatMap, once-filter, once-map, once-flatMap}
+use Rattle.spec.proofs.LoopEdges.{loopless}
 use Rattle.spec.proofs.ChainLaws.{allowed-length, chains-sound, chains-complete}
 use Rattle.spec.proofs.OnceLaws.{length-all, inserted, lasting-mem, segment-position, same-position, once-range, once-stored, once-walks}
 use Rattle.spec.proofs.OrderLaws.{sorted-any}
@@ -63,7 +66,10 @@ module _ (b : List ℕ) (dst : IsdAsn) where
       go true k = ([], ⊎-elim (λ q. q) (λ l. absurd (not-nil l)) (cases-cons k))
       go false k = let w = map-mem (λ es. e ∷ es) (walks (maxEdges - 1) (storedEdges b) (AS dst) (e .dst)) k in (w .0, w .2)
 
-  module _ (src : IsdAsn) where
+  module _ (ok : verdict b ≡ Accepted) (src : IsdAsn) where
+    first-apart : (seg : Segment) → Mem seg (firsts (segments b)) → Apart seg
+    first-apart seg m = loopless b ok (first-mem b m) .apart
+
     abbrev here : Segment → List Edge
     here seg = leavingIn seg src
 
@@ -74,7 +80,7 @@ module _ (b : List ℕ) (dst : IsdAsn) where
     starts-once =
         once-flatMap here (λ seg. leaving-once seg src) (firsts (segments b)) (once-firsts b)
         (λ x y k l e p q.
-        same-position b x y (first-mem b k) (first-mem b l) (sym (leaving-position src x (leaving-mem x src p)) ∙ leaving-position src y (leaving-mem y src q)))
+        same-position b x y (first-mem b k) (first-mem b l) (sym (leaving-position src x (leaving-mem x (first-apart x k) src p)) ∙ leaving-position src y (leaving-mem y (first-apart y l) src q)))
 
     -- by edges that leave the source, as the search lists them and as the definitions do
     found-from : sameAs src dst ≡ false → foundChains b dst src ≡ flatMap (chainsFrom b dst) starts
@@ -100,12 +106,12 @@ module _ (b : List ℕ) (dst : IsdAsn) where
     no-chains q = ap (λ t. if t then [] else filter allowedKinds (walks maxEdges (storedEdges b) (AS dst) (AS src))) q
 
     -- what one list of lists has the other has
-    swap : (f g : Segment → List Edge) → ((seg : Segment) (e : Edge) → Mem e (f seg) → Mem e (g seg)) → (c : List Edge)
+    swap : (f g : Segment → List Edge) → ((seg : Segment) → Apart seg → (e : Edge) → Mem e (f seg) → Mem e (g seg)) → (c : List Edge)
         → Mem c (flatMap (chainsFrom b dst) (flatMap f (firsts (segments b)))) → Mem c (flatMap (chainsFrom b dst) (flatMap g (firsts (segments b))))
     swap f g h c m =
         let w = flatMap-mem (chainsFrom b dst) (flatMap f (firsts (segments b))) m in
         let v = flatMap-mem f (firsts (segments b)) (w .1) in
-        mem-flatMap (chainsFrom b dst) (mem-flatMap g (v .1) (h (v .0) (w .0) (v .2))) (w .2)
+        mem-flatMap (chainsFrom b dst) (mem-flatMap g (v .1) (h (v .0) (first-apart (v .0) (v .1)) (w .0) (v .2))) (w .2)
 
     pub found-once : Once (foundChains b dst src)
     found-once = go (sameAs src dst) refl
@@ -122,7 +128,7 @@ module _ (b : List ℕ) (dst : IsdAsn) where
       where
         go : (t : Bool) → sameAs src dst ≡ t → Mem c (chains b src dst)
         go true q = absurd (not-nil (subst (Mem c) (none-found q) m))
-        go false q = subst (Mem c) (sym (chains-from q)) (swap here (leavingOf (AS src)) (λ seg e k. leaving-mem seg src k) c (subst (Mem c) (found-from q) m))
+        go false q = subst (Mem c) (sym (chains-from q)) (swap here (leavingOf (AS src)) (λ seg a e k. leaving-mem seg a src k) c (subst (Mem c) (found-from q) m))
 
     pub found-complete : (c : List Edge) → IsChain b src dst c → Mem c (foundChains b dst src)
     found-complete c h = go (sameAs src dst) refl
@@ -132,7 +138,7 @@ module _ (b : List ℕ) (dst : IsdAsn) where
 
         go : (t : Bool) → sameAs src dst ≡ t → Mem c (foundChains b dst src)
         go true q = absurd (not-nil (subst (Mem c) (no-chains q) m))
-        go false q = subst (Mem c) (sym (found-from q)) (swap (leavingOf (AS src)) here (λ seg e k. mem-leaving seg src k) c (subst (Mem c) (chains-from q) m))
+        go false q = subst (Mem c) (sym (found-from q)) (swap (leavingOf (AS src)) here (λ seg a e k. mem-leaving seg a src k) c (subst (Mem c) (chains-from q) m))
 
     -- in order they are the solutions
     found-sorted : (digest : List ℕ → List ℕ) → insertAll digest b [] (foundChains b dst src) ≡ solutions digest b src dst

@@ -16,7 +16,8 @@ use Rattle.spec.specs.Book.{Segment, segments, segmentAt, segmentCount, cores}
 use Rattle.spec.specs.Edges.{isFirst}
 use Rattle.spec.specs.Records.{bit}
 use Rattle.graph.specs.declared.search.Before.{Before}
-use Rattle.graph.specs.Scan.{firstWith, hasAs}
+use Rattle.graph.specs.Scan.{firstWith}
+use Rattle.graph.specs.Leaving.{hasAs}
 use Rattle.graph.specs.Prepared.{begins, arrives, Planned, Prepared}
 use Rattle.graph.specs.Pushed.{Slots, Room, Pushes}
 use Rattle.graph.specs.Search.{overFirsts, lastIn}

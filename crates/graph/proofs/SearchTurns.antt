@@ -13,16 +13,15 @@ use Rattle.spec.specs.declared.Vertex.{Vertex}
 use Rattle.spec.specs.declared.Vertex.the-variants.{AS, Peering}
 use Rattle.spec.specs.declared.Edge.{Edge}
 use Rattle.spec.specs.Basics.{if_then_else_, range}
-use Rattle.spec.specs.Book.{Segment, segments, segmentAt, segmentCount, cores}
-use Rattle.spec.specs.Edges.{sameAs, sameVertex, asOf, leafAs, edgeOf, isFirst}
+use Rattle.spec.specs.Book.{sameAs, Segment, segments, segmentAt, segmentCount, cores}
+use Rattle.spec.specs.Edges.{sameVertex, asOf, leafAs, edgeOf, isFirst}
 use Rattle.spec.specs.Records.{bit}
 use Rattle.graph.specs.declared.search.Before.{Before}
 use Rattle.graph.specs.declared.search.Before.the-variants.{Link, One, Two}
 use Rattle.graph.specs.declared.edges.Found.{Found}
 use Rattle.graph.specs.declared.edges.Found.the-variants.{Edge as FoundEdge, Nothing}
 use Rattle.graph.specs.Lookup.{between, leavingOf, foundEdges}
-use Rattle.graph.specs.Leaving.{entryCount, peerCountOf, asUp, peerUp, upsAt, leavingIn}
-use Rattle.graph.specs.Scan.{hasAs, coreEdgeFrom}
+use Rattle.graph.specs.Leaving.{entryCount, peerCountOf, asUp, peerUp, upsAt, leavingIn, hasAs, coreEdgeFrom}
 use Rattle.graph.specs.FirstOfEquals.{firstAt}
 use Rattle.graph.specs.Prepared.{begins, arrives}
 use Rattle.graph.specs.Search.{isAs, endsAtAs, overFirsts, pair, triple, pairsIn, triplesIn, acrossWith, chainsWith, lastIn, chainsFrom, chainsIn, foundChains}

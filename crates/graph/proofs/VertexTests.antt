@@ -8,13 +8,14 @@ use borrow.Author.Tests.{eq-eqb, ne-eqb}
 use Rattle.spec.specs.declared.IsdAsn.{IsdAsn}
 use Rattle.spec.specs.declared.Vertex.{Vertex}
 use Rattle.spec.specs.declared.Vertex.the-variants.{AS, Peering}
-use Rattle.spec.specs.Edges.{sameAs, sameVertex}
+use Rattle.spec.specs.Book.{sameAs}
+use Rattle.spec.specs.Edges.{sameVertex}
 use Rattle.spec.proofs.Membership.{not-both}
 use Rattle.graph.specs.declared.vertices.Link.{Link}
 use Rattle.graph.specs.Link.{endOf}
 
 -- tests of two links, in the order in which the code makes them
-pub second-fails : (x y z u : Bool) → y ≡ false → false ≡ (((x && y) && z) && u)
+second-fails : (x y z u : Bool) → y ≡ false → false ≡ (((x && y) && z) && u)
 second-fails true true z u q = not-both refl q
 second-fails true false z u q = refl
 second-fails false y z u q = refl

@@ -1,7 +1,7 @@
--- The stored edges of a segment that leave an AS, as the code walks over them: entry by entry, and at each entry peer by peer.
+-- The edges of a segment as the code finds them: between two vertices, and those that leave an AS, entry by entry and at each entry peer by peer.
 -- Assumes nothing.
 use Prim.Native.Nat.{ℕ, _+_, _-_}
-use mathlib.Core.Bool.{Bool, _&&_, not}
+use mathlib.Core.Bool.{Bool, _&&_, _||_}
 use mathlib.Core.List.{List, [], _∷_, _++_, flatMap}
 use lib.ListN.{length}
 use lib.Dec.{ltb, eqb}
@@ -9,10 +9,17 @@ use Rattle.spec.specs.declared.IsdAsn.{IsdAsn}
 use Rattle.spec.specs.declared.Vertex.{Vertex}
 use Rattle.spec.specs.declared.Vertex.the-variants.{AS, Peering}
 use Rattle.spec.specs.declared.Edge.{Edge}
-use Rattle.spec.specs.Basics.{if_then_else_, any, range}
-use Rattle.spec.specs.Book.{Segment}
-use Rattle.spec.specs.Edges.{sameAs, sameVertex, entryOf, asOf, leafAs, peerOf, edgeOf}
+use Rattle.spec.specs.Basics.{if_then_else_, range}
+use Rattle.spec.specs.Book.{sameAs, Segment}
+use Rattle.spec.specs.Edges.{sameVertex, entryOf, asOf, leafAs, peerOf, edgeOf}
+use Rattle.graph.specs.declared.vertices.Link.{Link}
+use Rattle.graph.specs.Scan.{firstWith, lastWith}
+use Rattle.graph.specs.Link.{endOf}
 use Rattle.graph.specs.Lookup.{between, leavingOf}
+
+-- two ASes are the one and the other
+unfoldable pub joins : IsdAsn → IsdAsn → IsdAsn → IsdAsn → Bool
+joins first last a c = sameAs first a && sameAs last c || sameAs last a && sameAs first c
 
 module _ (seg : Segment) where
   unfoldable pub entryCount : ℕ
@@ -25,30 +32,61 @@ module _ (seg : Segment) where
   unfoldable pub linkOf : ℕ → ℕ → Vertex
   linkOf i p = Peering (asOf seg i) (peerOf seg i p .hop .ingress) (peerOf seg i p .peer) (peerOf seg i p .interface)
 
-  -- ---- what stands: edges with equal ends overwrite, entries from the leaf down, peers from 0 up
+  -- ---- what a scan finds
 
   unfoldable pub isEntryOf : IsdAsn → ℕ → Bool
   isEntryOf a j = sameAs (asOf seg j) a
 
-  -- the AS edges of entry i stand: it is not the leaf, and no entry below has its AS
-  unfoldable pub asStands : ℕ → Bool
-  asStands i = ltb i (entryCount - 1) && not (any (isEntryOf (asOf seg i)) (range 0 i))
+  -- the first of the entries below n that has an AS; n where none has
+  unfoldable pub entryWith : IsdAsn → ℕ → ℕ
+  entryWith a n = firstWith (isEntryOf a) 0 n
+
+  -- an entry has an AS
+  unfoldable pub hasAs : IsdAsn → Bool
+  hasAs a = ltb (entryWith a entryCount) entryCount
 
   unfoldable pub isLink : Vertex → ℕ → ℕ → Bool
   isLink v i p = sameVertex (linkOf i p) v
 
-  unfoldable pub hasLink : Vertex → ℕ → Bool
-  hasLink v i = any (isLink v i) (range 0 (peerCountOf i))
+  -- one more than the last peer of entry i that has a peering end; 0 where none has
+  unfoldable pub peerLinked : Vertex → ℕ → ℕ
+  peerLinked v i = lastWith (isLink v i) (peerCountOf i)
 
-  -- the edges of peer p of entry i stand: no later peer of the entry and no peer of an entry below has its peering end
-  unfoldable pub peerStands : ℕ → ℕ → Bool
-  peerStands i p =
-      not (any (isLink (linkOf i p) i) (range (p + 1) (peerCountOf i - (p + 1)))) && not (any (hasLink (linkOf i p)) (range 0 i))
+  -- ---- between two vertices
+
+  -- an AS edge at entry i, where i is below the leaf
+  unfoldable pub asEdgeAt : Vertex → Vertex → ℕ → List Edge
+  asEdgeAt v w i = if ltb i (entryCount - 1) then edgeOf seg v w (entryCount - 1 - i) i 0 ∷ [] else []
+
+  -- a peer's edge at entry i, where there are such an entry and such a peer
+  unfoldable pub peerEdgeAt : Vertex → Vertex → ℕ → ℕ → ℕ → List Edge
+  peerEdgeAt v w weight i q = if ltb i entryCount && ltb 0 q then edgeOf seg v w weight i q ∷ [] else []
+
+  -- the edge down to the leaf over a link, at the entry of its AS
+  unfoldable pub downPeerEdge : Vertex → Vertex → Link → List Edge
+  downPeerEdge v w l =
+      let i : ℕ = entryWith (l .local) entryCount in
+      peerEdgeAt v w (entryCount - 1 - i) i (peerLinked (endOf l) i)
+
+  -- ---- a core segment
+
+  unfoldable pub coreEdge : IsdAsn → IsdAsn → List Edge
+  coreEdge a c = if joins (asOf seg 0) (leafAs seg) a c then edgeOf seg (AS a) (AS c) (entryCount - 1) 0 0 ∷ [] else []
+
+  unfoldable pub coreEdgeFrom : Vertex → List Edge
+  coreEdgeFrom v =
+      if sameVertex (AS (asOf seg 0)) v then edgeOf seg (AS (asOf seg 0)) (AS (leafAs seg)) (entryCount - 1) 0 0 ∷ []
+      else if sameVertex (AS (leafAs seg)) v then edgeOf seg (AS (leafAs seg)) (AS (asOf seg 0)) (entryCount - 1) 0 0 ∷ []
+      else []
 
   -- ---- from the leaf
 
   unfoldable pub asUp : ℕ → List Edge
-  asUp i = if asStands i then edgeOf seg (AS (leafAs seg)) (AS (asOf seg i)) (entryCount - 1 - i) i 0 ∷ [] else []
+  asUp i = asEdgeAt (AS (leafAs seg)) (AS (asOf seg i)) i
+
+  -- the edges of peer p of entry i stand: of the entry's peers that have its peering end it is the last
+  unfoldable pub peerStands : ℕ → ℕ → Bool
+  peerStands i p = eqb (peerLinked (linkOf i p) i) (p + 1)
 
   unfoldable pub peerUp : ℕ → ℕ → List Edge
   peerUp i p = if peerStands i p then edgeOf seg (AS (leafAs seg)) (linkOf i p) (entryCount - i) i (p + 1) ∷ [] else []

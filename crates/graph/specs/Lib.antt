@@ -1,9 +1,9 @@
 pub mod Lookup
-pub mod Leaving
 pub mod Scan
+pub mod Link
+pub mod Leaving
 pub mod Ready
 pub mod FirstOfEquals
-pub mod Link
 pub mod EdgeFound
 pub mod Prepared
 pub mod Search

@@ -5,15 +5,11 @@ use lib.Dec.{eqb}
 use Rattle.spec.specs.declared.PeerEntry.{PeerEntry}
 use Rattle.spec.specs.declared.Vertex.{Vertex}
 use Rattle.spec.specs.declared.Vertex.the-variants.{Peering}
-use Rattle.spec.specs.Edges.{sameAs}
+use Rattle.spec.specs.Book.{sameAs}
 use Rattle.graph.specs.declared.vertices.Link.{Link}
 
 abbrev pub endOf : Link → Vertex
 endOf l = Peering (l .local) (l .ingress) (l .peer) (l .interface)
-
--- and from the other side
-abbrev pub farEndOf : Link → Vertex
-farEndOf l = Peering (l .peer) (l .interface) (l .local) (l .ingress)
 
 -- a peer of an entry of the link's AS has the link
 unfoldable pub samePeer : PeerEntry → Link → Bool

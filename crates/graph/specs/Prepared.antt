@@ -10,7 +10,8 @@ use Rattle.spec.specs.Limits.{maxSegments}
 use Rattle.spec.specs.Book.{segments, segmentAt, segmentCount, cores}
 use Rattle.spec.specs.Edges.{isFirst}
 use Rattle.spec.specs.Records.{bit}
-use Rattle.graph.specs.Scan.{firstWith, hasAs}
+use Rattle.graph.specs.Scan.{firstWith}
+use Rattle.graph.specs.Leaving.{hasAs}
 use Rattle.graph.specs.Ready.{Ready}
 
 -- chains may begin in the segment at a position: it is the first of its equals, and a core segment, or an entry has the source's AS

@@ -9,8 +9,8 @@ use Rattle.spec.specs.declared.Vertex.the-variants.{AS, Peering}
 use Rattle.spec.specs.declared.Edge.{Edge}
 use Rattle.spec.specs.Limits.{maxEdges}
 use Rattle.spec.specs.Basics.{if_then_else_, filter}
-use Rattle.spec.specs.Book.{Segment, segments, segmentAt, segmentCount}
-use Rattle.spec.specs.Edges.{sameAs, sameVertex, isFirst, storedEdges}
+use Rattle.spec.specs.Book.{sameAs, Segment, segments, segmentAt, segmentCount}
+use Rattle.spec.specs.Edges.{sameVertex, isFirst, storedEdges}
 use Rattle.spec.specs.Chains.{allowedKinds, beginning, walks}
 use Rattle.graph.specs.declared.search.Before.{Before}
 use Rattle.graph.specs.declared.search.Before.the-variants.{Link, One, Two}

@@ -6,12 +6,10 @@ ghost use Prim.Native.Nat.{_-_, _<_};
 ghost use Rattle.spec.specs.declared.IsdAsn.{IsdAsn};
 ghost use Rattle.spec.specs.declared.Vertex.{Vertex};
 ghost use Rattle.spec.specs.declared.Vertex.the-variants.{AS};
-ghost use Rattle.spec.specs.Book.{segmentAt, segmentCount};
-ghost use Rattle.spec.specs.Edges.{sameAs, leafAs, inConstruction};
+ghost use Rattle.spec.specs.Book.{sameAs, segmentAt, segmentCount};
+ghost use Rattle.spec.specs.Edges.{leafAs, inConstruction};
 ghost use Rattle.graph.specs.Lookup.{between, leavingOf, foundEdges};
-ghost use Rattle.graph.specs.Leaving.{entryCount, peerCountOf, asUp, peerUp};
-ghost use Rattle.graph.specs.Scan.{joins, entryWith, asEdgeAt, downPeerEdge};
-ghost use Rattle.graph.specs.Link.{endOf};
+ghost use Rattle.graph.specs.Leaving.{entryCount, peerCountOf, asUp, peerUp, joins, entryWith, asEdgeAt, downPeerEdge};
 ghost use Rattle.graph.specs.EdgeFound.{wholeEdge, wholeEdges};
 ghost use Rattle.graph.specs.Ready.{Ready, Filled};
 use crate::opened;
@@ -51,7 +49,7 @@ fn none_found() -> EdgeFound
     }
 }
 
-// The AS edge at the first entry below the leaf that has an AS.
+// The AS edge at the entry below the leaf that has an AS.
 fn as_edge_found(
     book: &[u8],
     table: &[u16; PLACES],
@@ -101,21 +99,22 @@ pub(crate) fn edge_between_ases(
     none_found()
 }
 
-// The edge to the leaf from the other side of a link, at the first entry that has the link.
+// The edge to the leaf from the other side of a link, at the entry of its AS.
 fn link_edge_found(book: &[u8], table: &[u16; PLACES], k: u8, n: u8, link: Link) -> EdgeFound
     requires { ⌜ Filled (now book) (now table) k n ⌝ }
     requires { ⌜ segmentAt (now book) k .core ≡ false ⌝ }
-    ensures { λ r. ⌜ ((v : Vertex) (w : IsdAsn) → true ≡ inConstruction (segmentAt (now (book .entry)) k) (AS w) → wholeEdges k v w r ≡ downPeerEdge (segmentAt (now (book .entry)) k) v (AS w) (endOf link)) ⌝ }
+    ensures { λ r. ⌜ ((v : Vertex) (w : IsdAsn) → true ≡ inConstruction (segmentAt (now (book .entry)) k) (AS w) → wholeEdges k v w r ≡ downPeerEdge (segmentAt (now (book .entry)) k) v (AS w) link) ⌝ }
 {
-    let i = opened::find_linked(book, table, k, link, n);
+    let i = opened::find_as(book, table, k, link.local, n);
     if n <= i {
         return none_found();
     }
+    let q = opened::find_peer(book, table, k, i, link);
     EdgeFound {
-        found: true,
+        found: 0 < q,
         construction: true,
         shortcut: i,
-        peer: opened::find_peer(book, table, k, i, link),
+        peer: q,
         weight: n - 1 - i,
     }
 }
@@ -308,7 +307,7 @@ pub(crate) fn core_leaving(book: &[u8], table: &[u16; PLACES], k: u8, v: Vertex)
     Found::Nothing
 }
 
-// The edge from the leaf to the AS of entry i, where it stands.
+// The edge from the leaf to the AS of entry i, where that is not the leaf.
 pub(crate) fn as_up(book: &[u8], table: &[u16; PLACES], k: u8, i: u8) -> Found
     requires { ⌜ Ready (now book) (now table) ⌝ }
     requires { ⌜ k < segmentCount (now book) ⌝ }
@@ -320,9 +319,6 @@ pub(crate) fn as_up(book: &[u8], table: &[u16; PLACES], k: u8, i: u8) -> Found
         return Found::Nothing;
     }
     let here = opened::as_at(book, table, k, i);
-    if opened::find_as(book, table, k, here, i) < i {
-        return Found::Nothing;
-    }
     let leaf = opened::as_at(book, table, k, n - 1);
     Found::Edge(Edge {
         src: Vertex::AS(leaf),
@@ -331,12 +327,12 @@ pub(crate) fn as_up(book: &[u8], table: &[u16; PLACES], k: u8, i: u8) -> Found
         shortcut: i,
         peer: 0,
         position: k,
-        construction: vertices::same_as(here, leaf),
+        construction: false,
         core: opened::is_core(book, k),
     })
 }
 
-// The edge from the leaf to the peering end of peer p of entry i, where it stands.
+// The edge from the leaf to the peering end of peer p of entry i, where no later peer of the entry has it.
 pub(crate) fn peer_up(book: &[u8], table: &[u16; PLACES], k: u8, i: u8, p: u8) -> Found
     requires { ⌜ Ready (now book) (now table) ⌝ }
     requires { ⌜ k < segmentCount (now book) ⌝ }
@@ -347,9 +343,6 @@ pub(crate) fn peer_up(book: &[u8], table: &[u16; PLACES], k: u8, i: u8, p: u8) -
     let link = opened::link_at(book, table, k, i, p);
     let q = opened::find_peer(book, table, k, i, link);
     if q - 1 != p {
-        return Found::Nothing;
-    }
-    if opened::find_linked(book, table, k, link, i) < i {
         return Found::Nothing;
     }
     let n = opened::count_of(book, k);

@@ -6,10 +6,9 @@ ghost use lib.ListN.{length, getD};
 ghost use Rattle.spec.specs.declared.Verdict.the-variants.{Accepted};
 ghost use Rattle.spec.specs.Limits.{maxSegments, maxEntries, entrySize, peerSize};
 ghost use Rattle.spec.specs.Octets.{be16, be32, be64};
-ghost use Rattle.spec.specs.Book.{segmentAt, segmentCount, sizesAt, verdict, isdAsnAt, peerCount, peerEntryAt, peerOffset};
-ghost use Rattle.spec.specs.Edges.{sameAs, asOf, leafAs};
-ghost use Rattle.graph.specs.Leaving.{entryCount, peerCountOf, linkOf, hasLink};
-ghost use Rattle.graph.specs.Scan.{entryWith, hasAs, entryLinked, peerLinked};
+ghost use Rattle.spec.specs.Book.{sameAs, segmentAt, segmentCount, sizesAt, verdict, isdAsnAt, peerCount, peerEntryAt, peerOffset};
+ghost use Rattle.spec.specs.Edges.{asOf, leafAs};
+ghost use Rattle.graph.specs.Leaving.{entryCount, peerCountOf, linkOf, entryWith, hasAs, peerLinked};
 ghost use Rattle.graph.specs.Link.{endOf, samePeer};
 ghost use Rattle.graph.specs.Ready.{Ready};
 use crate::vertices;
@@ -266,36 +265,6 @@ pub(crate) fn find_peer(book: &[u8], table: &[u16; PLACES], k: u8, i: u8, link: 
         p -= 1;
     }
     0
-}
-
-// A peer of entry i has a link. Most entries are passed over after a look at their AS.
-fn has_link(book: &[u8], table: &[u16; PLACES], k: u8, i: u8, link: Link) -> bool
-    requires { ⌜ Ready (now book) (now table) ⌝ }
-    requires { ⌜ k < segmentCount (now book) ⌝ }
-    requires { ⌜ i < entryCount (segmentAt (now book) k) ⌝ }
-    ensures { λ r. ⌜ r ≡ hasLink (segmentAt (now (book .entry)) k) (endOf link) i ⌝ }
-{
-    if !vertices::same_as(as_at(book, table, k, i), link.local) {
-        return false;
-    }
-    find_peer(book, table, k, i, link) > 0
-}
-
-// The first of the entries below n that has a peer with a link; n where none has.
-pub(crate) fn find_linked(book: &[u8], table: &[u16; PLACES], k: u8, link: Link, n: u8) -> u8
-    requires { ⌜ Ready (now book) (now table) ⌝ }
-    requires { ⌜ k < segmentCount (now book) ⌝ }
-    requires { ⌜ n ≤ entryCount (segmentAt (now book) k) ⌝ }
-    ensures { λ r. ⌜ r ≡ entryLinked (segmentAt (now (book .entry)) k) (endOf link) n ⌝ }
-{
-    let mut i: u8 = 0;
-    while i < n {
-        if has_link(book, table, k, i, link) {
-            return i;
-        }
-        i += 1;
-    }
-    i
 }
 
 // The link of peer p of entry i.

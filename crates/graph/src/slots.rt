@@ -20,7 +20,7 @@ pub(crate) fn weight(e: Edge) -> u16
     e.weight as u16
 }
 
-pub(crate) fn edge(e: Edge) -> SolutionEdge
+fn edge(e: Edge) -> SolutionEdge
     ensures { λ r. ⌜ r ≡ solutionEdge e ⌝ }
 {
     SolutionEdge {

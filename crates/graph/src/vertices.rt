@@ -1,6 +1,7 @@
 // The ends of edges: ASes and peering links.
 ghost use mathlib.Core.Path.{_≡_};
-ghost use Rattle.spec.specs.Edges.{sameAs, sameVertex};
+ghost use Rattle.spec.specs.Book.{sameAs};
+ghost use Rattle.spec.specs.Edges.{sameVertex};
 ghost use Rattle.graph.specs.Link.{endOf};
 use spec::IsdAsn;
 use spec::Vertex;

@@ -146,6 +146,29 @@ fn slots(out: &mut [u8]) {
     show(b"no segment", A, B, &book[..0], out);
 }
 
+// A segment of two entries of one AS, beside one that has a solution.
+fn twice(out: &mut [u8]) {
+    let mut book = [0u8; Sizes::SIZE + 2 * SEGMENT];
+    put_sizes(&mut book, 0, 2);
+    segment(&mut book, 2, 0, B, A);
+    segment(&mut book, 2, 1, X, X);
+    let mut few = [0u8; Solution::SIZE - 1];
+    show(b"one AS twice in a segment, no slot", A, B, &book, &mut few);
+    show(b"one AS twice in a segment", A, B, &book, out);
+    show(b"and ends that are equal", A, A, &book, out);
+    segment(&mut book, 2, 1, X, Y);
+    show(b"two ASes in that segment", A, B, &book, out);
+}
+
+// A core of two entries of one AS.
+fn core_twice(out: &mut [u8]) {
+    let mut book = [0u8; Sizes::SIZE + 2 * SEGMENT];
+    put_sizes(&mut book, 1, 1);
+    segment(&mut book, 2, 0, X, X);
+    segment(&mut book, 2, 1, B, A);
+    show(b"one AS twice in a core", A, B, &book, out);
+}
+
 // ---- one segment of the most entries, each with the most peers
 
 const FULL: usize = AsEntry::SIZE + PeerEntry::SIZE * Limits::PEERS;
@@ -196,6 +219,8 @@ fn main() {
     let mut out = [0xffu8; Limits::SLOTS * Solution::SIZE];
     empty(&mut out);
     slots(&mut out);
+    twice(&mut out);
+    core_twice(&mut out);
     crossed(&mut out);
     overfull(&mut out);
     crowd(&mut out);

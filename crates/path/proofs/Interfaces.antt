@@ -15,8 +15,7 @@ use Rattle.spec.specs.declared.Edge.{Edge}
 use Rattle.spec.specs.Limits.{solutionSize}
 use Rattle.spec.specs.Basics.{range}
 use Rattle.spec.specs.Octets.{Bytes, be16, be64, octets2}
-use Rattle.spec.specs.Book.{isdAsnAt}
-use Rattle.spec.specs.Edges.{sameAs}
+use Rattle.spec.specs.Book.{sameAs, isdAsnAt}
 use Rattle.spec.specs.Assembly.{combinedPath, isLoop}
 use Rattle.spec.specs.Records.{interfaceIdOctets, noInterface, solutionIn}
 use Rattle.spec.specs.Routes.{sameInterface, sameInterfaces}

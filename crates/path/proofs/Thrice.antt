@@ -12,7 +12,7 @@ use Rattle.spec.specs.declared.IsdAsn.{IsdAsn}
 use Rattle.spec.specs.declared.PathInterface.{PathInterface}
 use Rattle.spec.specs.Basics.{if_then_else_, any, filter, range}
 use Rattle.spec.specs.Octets.{be64}
-use Rattle.spec.specs.Edges.{sameAs}
+use Rattle.spec.specs.Book.{sameAs}
 use Rattle.spec.specs.Assembly.{isOf, timesOf, isCrowded, isLoop}
 use Rattle.spec.proofs.Membership.{not-both}
 use Rattle.spec.proofs.Lists.{map-same, map-range-first}

@@ -39,8 +39,8 @@ module _ (p : ℕ → Bool) (n k : ℕ) where
   unfolding any range
   any-done h = let e : n - k ≡ 0 = omega arith in rw e
 
--- it holds of none from k on
-pub any-none : (p : ℕ → Bool) (k left : ℕ) → ((i : ℕ) → k ≤ i → p i ≡ false) → any p (range k left) ≡ false
+-- it holds of none of them
+pub any-none : (p : ℕ → Bool) (k left : ℕ) → ((i : ℕ) → k ≤ i → i < k + left → p i ≡ false) → any p (range k left) ≡ false
 unfolding any range
 any-none p k zero f = refl
-any-none p k (suc left) f = rw (f k (omega arith)) (any-none p (k + 1) left (λ i h. f i (omega arith)))
+any-none p k (suc left) f = rw (f k (omega arith) (omega arith)) (any-none p (k + 1) left (λ i h l. f i (omega arith) (omega arith)))

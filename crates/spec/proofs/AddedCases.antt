@@ -4,7 +4,7 @@
 -- Assumes nothing.
 use Prim.Native.Nat.{ℕ, _+_, _-_}
 use mathlib.Core.Bool.{_&&_}
-use mathlib.Core.List.{List, [], _∷_, _++_, flatMap}
+use mathlib.Core.List.{List, [], _∷_, _++_, map, flatMap}
 use lib.ListN.{replicate}
 use lib.Dec.{T}
 use Rattle.sha256.specs.Words
@@ -14,6 +14,7 @@ use Rattle.sha256.specs.Message
 use Rattle.spec.specs.Limits.{pathSize}
 use Rattle.spec.specs.Basics
 use Rattle.spec.specs.Octets
+use Rattle.spec.specs.Octets.{octets8}
 use Rattle.spec.specs.Book
 use Rattle.spec.specs.Edges
 use Rattle.spec.specs.Chains
@@ -26,7 +27,7 @@ use Rattle.spec.specs.Printed
 use Rattle.spec.specs.Routes
 use Rattle.spec.proofs.PinnedCases
 use Rattle.spec.proofs.RouteCases
-use Rattle.spec.proofs.CasesForm.{entry, peer, segment, book, edge, solution, accept, list, route, print, assemble, hold, room, input, Case, case, sketchOf, answer, right, every, a0, a110, a111, a112, a113, a114, b110, mac0, mac1, mac2, mac3}
+use Rattle.spec.proofs.CasesForm.{entry, peer, Draft, segment, book, inRow, edge, solution, accept, list, route, print, assemble, hold, room, input, Case, case, sketchOf, answer, right, every, a0, a110, a111, a112, a113, a114, a200, b110, mac0, mac1, mac2, mac3}
 
 -- ---- the books
 
@@ -122,28 +123,30 @@ repeatedBook =
     ∷ segment 1000000 0x1234 (entry a110 1500 0 0 5 63 mac0 [] ∷ entry a111 1400 1351 7 0 63 mac1 [] ∷ [])
     ∷ [])
 
--- a110 stands twice in a segment, each time with peers that have equal ends
-abbrev pub againBook : List ℕ
-againBook =
+-- two entries, each with peers of equal ends: two of the first, which stand before another, three of the second
+abbrev pub equalPeersBook : List ℕ
+equalPeersBook =
     book
     []
     (segment 1 0x1 (entry a110 1500 0 0 1 63 mac0 (peer a113 5 1500 63 6 0 mac0 ∷ peer a113 5 1500 63 6 1 mac1 ∷ peer a114 5 1500 63 6 2 mac1 ∷ [])
     ∷ entry a111 1500 0 2 3 63 mac1 []
-    ∷ entry a110 1500 0 4 5 63 mac2 (peer a113 5 1500 63 6 0 mac2 ∷ peer a113 5 1500 63 6 0 mac2 ∷ peer a113 5 1500 63 6 0 mac3 ∷ [])
+    ∷ entry b110 1500 0 4 5 63 mac2 (peer a113 5 1500 63 6 0 mac2 ∷ peer a113 5 1500 63 6 0 mac2 ∷ peer a113 5 1500 63 6 0 mac3 ∷ [])
     ∷ entry a112 1500 0 6 0 63 mac3 [] ∷ [])
-    ∷ segment 1 0x2 (entry a113 1500 0 0 0 63 mac0 (peer a110 6 1500 63 5 0 mac0 ∷ []) ∷ [])
+    ∷ segment 1 0x2 (entry a113 1500 0 0 0 63 mac0 (peer a110 6 1500 63 5 0 mac0 ∷ peer b110 6 1500 63 5 0 mac0 ∷ []) ∷ [])
     ∷ [])
 
--- cores of one entry at both ends, a non-core from a110 to itself, and a non-core of one entry
+-- cores of one entry at both ends and at a112 between them, segments from one to the other, and a non-core of one entry
 abbrev pub selfBook : List ℕ
 selfBook =
     book
     (segment 1 0x1 (entry a110 1500 0 0 1 63 mac0 [] ∷ [])
     ∷ segment 1 0x2 (entry a111 1500 0 0 1 63 mac0 [] ∷ [])
+    ∷ segment 1 0x3 (entry a112 1500 0 0 1 63 mac0 [] ∷ [])
     ∷ [])
-    (segment 1 0x3 (entry a110 1500 0 0 1 63 mac0 [] ∷ entry a111 1500 0 2 0 63 mac1 [] ∷ [])
-    ∷ segment 1 0x4 (entry a110 1500 0 0 3 63 mac0 [] ∷ entry a110 1500 0 4 0 63 mac1 [] ∷ [])
-    ∷ segment 1 0x5 (entry a110 1500 0 0 3 63 mac0 [] ∷ [])
+    (segment 1 0x4 (entry a110 1500 0 0 1 63 mac0 [] ∷ entry a111 1500 0 2 0 63 mac1 [] ∷ [])
+    ∷ segment 1 0x5 (entry a112 1500 0 0 3 63 mac0 [] ∷ entry a110 1500 0 4 0 63 mac1 [] ∷ [])
+    ∷ segment 1 0x6 (entry a112 1500 0 0 5 63 mac0 [] ∷ entry a111 1500 0 6 0 63 mac1 [] ∷ [])
+    ∷ segment 1 0x7 (entry a110 1500 0 0 3 63 mac0 [] ∷ [])
     ∷ [])
 
 -- two segments with no entries, and one whose leaf is AS 0
@@ -269,6 +272,48 @@ says entries bytes = replicate 7 0 ++ (entries ∷ 0 ∷ bytes ∷ [])
 -- an entry of zeros but for its peer count
 abbrev pub blank : ℕ → List ℕ
 blank peers = replicate 25 0 ++ (peers ∷ [])
+
+-- an entry of zeros but for its AS
+abbrev pub atAs : ℕ → List ℕ
+atAs local = octets8 local ++ replicate 18 0
+
+-- a segment through these ASes, and a book of one: core and non-core
+abbrev pub through : List ℕ → Draft
+through ases = segment 0 0 (map atAs ases)
+
+abbrev pub coreThrough : List ℕ → List ℕ
+coreThrough ases = book (through ases ∷ []) []
+
+abbrev pub nonCoreThrough : List ℕ → List ℕ
+nonCoreThrough ases = book [] (through ases ∷ [])
+
+-- a segment that passes AS 0 twice, and what its head says
+abbrev pub twice : List ℕ
+twice = blank 0 ++ blank 0
+
+abbrev pub saysTwice : List ℕ
+saysTwice = says 2 52
+
+-- the worked segment, and after it one that passes a110 twice
+abbrev pub workedTwice : List ℕ
+workedTwice =
+    book
+    []
+    (segment 1000000 0x1234 (entry a110 1500 0 0 5 63 mac0 [] ∷ entry a111 1400 1350 7 0 63 mac1 [] ∷ [])
+    ∷ segment 1 0x1 (entry a110 1500 0 0 1 63 mac0 [] ∷ entry a112 1500 0 2 3 63 mac1 [] ∷ entry a110 1500 0 4 0 63 mac2 [] ∷ [])
+    ∷ [])
+
+-- AS 0 and one bit, each of the 64 in its turn
+abbrev pub bitsBook : List ℕ
+bitsBook =
+    book
+    []
+    (through (0 ∷ 1 ∷ 2 ∷ 4 ∷ 8 ∷ 0x10 ∷ 0x20 ∷ 0x40 ∷ 0x80 ∷ 0x100 ∷ 0x200 ∷ 0x400 ∷ 0x800 ∷ 0x1000 ∷ 0x2000 ∷ 0x4000 ∷ [])
+    ∷ through (0 ∷ 0x8000 ∷ 0x1_0000 ∷ 0x2_0000 ∷ 0x4_0000 ∷ 0x8_0000 ∷ 0x10_0000 ∷ 0x20_0000 ∷ 0x40_0000 ∷ 0x80_0000 ∷ 0x100_0000 ∷ 0x200_0000 ∷ 0x400_0000 ∷ 0x800_0000 ∷ 0x1000_0000 ∷ 0x2000_0000 ∷ [])
+    ∷ through (0 ∷ 0x4000_0000 ∷ 0x8000_0000 ∷ 0x1_0000_0000 ∷ 0x2_0000_0000 ∷ 0x4_0000_0000 ∷ 0x8_0000_0000 ∷ 0x10_0000_0000 ∷ 0x20_0000_0000 ∷ 0x40_0000_0000 ∷ 0x80_0000_0000 ∷ 0x100_0000_0000 ∷ 0x200_0000_0000 ∷ 0x400_0000_0000 ∷ 0x800_0000_0000 ∷ 0x1000_0000_0000 ∷ [])
+    ∷ through (0 ∷ 0x2000_0000_0000 ∷ 0x4000_0000_0000 ∷ 0x8000_0000_0000 ∷ 0x1_0000_0000_0000 ∷ 0x2_0000_0000_0000 ∷ 0x4_0000_0000_0000 ∷ 0x8_0000_0000_0000 ∷ 0x10_0000_0000_0000 ∷ 0x20_0000_0000_0000 ∷ 0x40_0000_0000_0000 ∷ 0x80_0000_0000_0000 ∷ 0x100_0000_0000_0000 ∷ 0x200_0000_0000_0000 ∷ 0x400_0000_0000_0000 ∷ 0x800_0000_0000_0000 ∷ [])
+    ∷ through (0 ∷ 0x1000_0000_0000_0000 ∷ 0x2000_0000_0000_0000 ∷ 0x4000_0000_0000_0000 ∷ 0x8000_0000_0000_0000 ∷ [])
+    ∷ [])
 
 -- ---- the tables
 
@@ -399,15 +444,12 @@ table =
     ∷ case (print (input mtuBook a112 a110)) (Printed.ascii "solutions 1 paths 1\n1 cost 1 segments 1 mtu 0 expiry 4294967294 hops 2\ninfo 0 0103 4294966957\nif 0001ff0000000112 2\nif 0001ff0000000110 1\n")
     -- the Rust: a repeated segment counts once, under the first position; another kind, id, timestamp or body makes another
     ∷ case (list repeatedBook a111 a110 80) (5 ∷ (solution 1 (edge 0 0 0 0 ∷ []) ++ solution 1 (edge 1 0 0 0 ∷ []) ++ solution 1 (edge 2 0 0 0 ∷ []) ++ solution 1 (edge 4 0 0 0 ∷ []) ++ solution 1 (edge 5 0 0 0 ∷ [])))
-    -- the Rust: of a repeated AS the smaller index stands
-    ∷ case (list againBook a112 a110 16) (1 ∷ solution 3 (edge 0 0 0 0 ∷ []))
-    ∷ case (list againBook a110 a112 16) (1 ∷ solution 3 (edge 0 0 0 1 ∷ []))
-    -- the Rust: of equal peers the larger index stands, under a repeated AS at the smaller entry index
-    ∷ case (list againBook a112 a113 16) (1 ∷ solution 4 (edge 0 0 2 0 ∷ edge 1 0 1 1 ∷ []))
-    ∷ case (list againBook a113 a112 16) (1 ∷ solution 4 (edge 1 0 1 0 ∷ edge 0 0 2 1 ∷ []))
-    -- the Rust: an edge from an AS to itself may stand first, and not last
-    ∷ case (list selfBook a110 a111 64) (4 ∷ (solution 1 (edge 2 0 0 1 ∷ []) ++ solution 1 (edge 0 0 0 1 ∷ edge 2 0 0 1 ∷ []) ++ solution 2 (edge 3 0 0 1 ∷ edge 2 0 0 1 ∷ []) ++ solution 2 (edge 3 0 0 1 ∷ edge 0 0 0 1 ∷ edge 2 0 0 1 ∷ [])))
-    ∷ case (list selfBook a111 a110 32) (2 ∷ (solution 1 (edge 2 0 0 0 ∷ []) ++ solution 1 (edge 1 0 0 1 ∷ edge 2 0 0 0 ∷ [])))
+    -- the Rust: of equal peers of one entry the larger index stands
+    ∷ case (list equalPeersBook a112 a113 32) (2 ∷ (solution 2 (edge 0 2 3 0 ∷ edge 1 0 2 1 ∷ []) ++ solution 4 (edge 0 0 2 0 ∷ edge 1 0 1 1 ∷ [])))
+    ∷ case (list equalPeersBook a113 a112 32) (2 ∷ (solution 2 (edge 1 0 2 0 ∷ edge 0 2 3 1 ∷ []) ++ solution 4 (edge 1 0 1 0 ∷ edge 0 0 2 1 ∷ [])))
+    -- the Rust: an edge from an AS to itself, of a core with one entry, may stand first and in the midst, and not last
+    ∷ case (list selfBook a110 a111 64) (4 ∷ (solution 1 (edge 3 0 0 1 ∷ []) ++ solution 1 (edge 0 0 0 1 ∷ edge 3 0 0 1 ∷ []) ++ solution 2 (edge 4 0 0 0 ∷ edge 5 0 0 1 ∷ []) ++ solution 2 (edge 4 0 0 0 ∷ edge 2 0 0 1 ∷ edge 5 0 0 1 ∷ [])))
+    ∷ case (list selfBook a111 a110 64) (4 ∷ (solution 1 (edge 3 0 0 0 ∷ []) ++ solution 1 (edge 1 0 0 1 ∷ edge 3 0 0 0 ∷ []) ++ solution 2 (edge 5 0 0 0 ∷ edge 4 0 0 1 ∷ []) ++ solution 2 (edge 5 0 0 0 ∷ edge 2 0 0 1 ∷ edge 4 0 0 1 ∷ [])))
     -- 4.3, 9.6: equal ends: no solution; a record then is a stranger's
     ∷ case (list selfBook a110 a110 16) (0 ∷ replicate 16 0)
     ∷ case (assemble selfBook a110 a110 (solution 0 (edge 0 0 0 1 ∷ [])) pathSize) (65546 ∷ replicate pathSize 0)
@@ -444,7 +486,7 @@ table =
     ∷ case (room 65536) (4096 ∷ [])
     ∷ case (room 65552) (4096 ∷ [])
     ∷ case (room 1000000) (4096 ∷ [])
-    -- 9.2 to 9.4: answers 1 to 7 and their order. 1: under 8 bytes, a head or a byte of the bodies is lacking
+    -- 9.2 to 9.4: answers 1 to 7 and 11, and their order. 1: under 8 bytes, a head or a byte of the bodies is lacking
     ∷ case (accept (replicate 0 0)) (1 ∷ [])
     ∷ case (accept (0 ∷ 65 ∷ replicate 5 0)) (1 ∷ [])
     ∷ case (accept (0 ∷ 1 ∷ replicate 15 0)) (1 ∷ [])
@@ -500,6 +542,93 @@ table =
     -- bodies by position
     ∷ case (accept (sized 1 1 53 (says 1 27 ∷ says 1 26 ∷ []) (blank 0 ++ (0 ∷ []) ++ blank 5))) (7 ∷ [])
     ∷ case (accept (sized 1 1 53 (says 1 26 ∷ says 1 27 ∷ []) (blank 5 ++ blank 0 ++ (0 ∷ [])))) (6 ∷ [])
+    -- 9.4: 11, by hand: two entries of one AS, the smallest such books: of a non-core and of a core
+    ∷ case (accept (sized 0 1 52 (saysTwice ∷ []) twice)) (11 ∷ [])
+    ∷ case (accept (sized 1 0 52 (saysTwice ∷ []) twice)) (11 ∷ [])
+    -- one entry passes, of a core too, and one of AS 0
+    ∷ case (accept (nonCoreThrough (1 ∷ []))) (0 ∷ [])
+    ∷ case (accept (coreThrough (1 ∷ []))) (0 ∷ [])
+    ∷ case (accept (sized 0 1 26 (says 1 26 ∷ []) (blank 0))) (0 ∷ [])
+    ∷ case (accept (sized 1 0 26 (says 1 26 ∷ []) (blank 0))) (0 ∷ [])
+    -- 11: entries that are not neighbours: the first and the last of three, of 16
+    ∷ case (accept (nonCoreThrough (1 ∷ 2 ∷ 1 ∷ []))) (11 ∷ [])
+    ∷ case (accept (coreThrough (1 ∷ 2 ∷ 1 ∷ []))) (11 ∷ [])
+    ∷ case (accept (nonCoreThrough (inRow a200 15 ++ (a200 ∷ [])))) (11 ∷ [])
+    ∷ case (accept (coreThrough (inRow a200 15 ++ (a200 ∷ [])))) (11 ∷ [])
+    -- 16 different ones pass
+    ∷ case (accept (nonCoreThrough (inRow a200 16))) (0 ∷ [])
+    ∷ case (accept (coreThrough (inRow a200 16))) (0 ∷ [])
+    -- 11: the first of three with the second, the leaf with the one before, the leaf of four with the second
+    ∷ case (accept (nonCoreThrough (1 ∷ 1 ∷ 2 ∷ []))) (11 ∷ [])
+    ∷ case (accept (coreThrough (1 ∷ 1 ∷ 2 ∷ []))) (11 ∷ [])
+    ∷ case (accept (nonCoreThrough (2 ∷ 1 ∷ 1 ∷ []))) (11 ∷ [])
+    ∷ case (accept (coreThrough (2 ∷ 1 ∷ 1 ∷ []))) (11 ∷ [])
+    ∷ case (accept (nonCoreThrough (2 ∷ 1 ∷ 3 ∷ 1 ∷ []))) (11 ∷ [])
+    -- 11: neither the first nor the leaf: neighbours, others, the last two before the leaf of 16
+    ∷ case (accept (nonCoreThrough (2 ∷ 1 ∷ 1 ∷ 3 ∷ []))) (11 ∷ [])
+    ∷ case (accept (coreThrough (2 ∷ 1 ∷ 1 ∷ 3 ∷ []))) (11 ∷ [])
+    ∷ case (accept (nonCoreThrough (2 ∷ 1 ∷ 3 ∷ 1 ∷ 4 ∷ []))) (11 ∷ [])
+    ∷ case (accept (coreThrough (2 ∷ 1 ∷ 3 ∷ 1 ∷ 4 ∷ []))) (11 ∷ [])
+    ∷ case (accept (nonCoreThrough (inRow a200 14 ++ inRow (a200 + 13) 2))) (11 ∷ [])
+    -- 1.3: one AS number in two ISDs, two AS numbers in one ISD: no repeat
+    ∷ case (accept (nonCoreThrough (a110 ∷ b110 ∷ []))) (0 ∷ [])
+    ∷ case (accept (coreThrough (a110 ∷ b110 ∷ []))) (0 ∷ [])
+    ∷ case (accept (nonCoreThrough (a110 ∷ a111 ∷ []))) (0 ∷ [])
+    -- nor ASes that differ in one bit: the highest, the lowest, any
+    ∷ case (accept (nonCoreThrough (a110 ∷ 0x8001_ff00_0000_0110 ∷ []))) (0 ∷ [])
+    ∷ case (accept (nonCoreThrough (b110 ∷ 0x0002_ff00_0000_0111 ∷ []))) (0 ∷ [])
+    ∷ case (accept bitsBook) (0 ∷ [])
+    -- one AS in two segments: no repeat; nor are two equal segments
+    ∷ case (accept (book [] (through (1 ∷ []) ∷ through (1 ∷ []) ∷ []))) (0 ∷ [])
+    ∷ case (accept (book (through (1 ∷ 2 ∷ []) ∷ []) (through (2 ∷ 1 ∷ []) ∷ through (3 ∷ 1 ∷ []) ∷ []))) (0 ∷ [])
+    ∷ case (accept (book (through (1 ∷ 2 ∷ []) ∷ through (1 ∷ 2 ∷ []) ∷ []) (through (1 ∷ 2 ∷ []) ∷ through (1 ∷ 2 ∷ []) ∷ []))) (0 ∷ [])
+    -- a peer of an entry's AS, its own or another's, is no entry; entries are looked for past the peers
+    ∷ case (accept (book [] (segment 0 0 (entry 1 0 0 0 0 0 mac0 (peer 1 0 0 0 0 0 mac0 ∷ peer 2 0 0 0 0 0 mac0 ∷ []) ∷ entry 2 0 0 0 0 0 mac0 (peer 1 0 0 0 0 0 mac0 ∷ []) ∷ []) ∷ []))) (0 ∷ [])
+    ∷ case (accept (book [] (segment 0 0 (entry 1 0 0 0 0 0 mac0 (peer 2 0 0 0 0 0 mac0 ∷ peer 2 0 0 0 0 0 mac0 ∷ []) ∷ entry 1 0 0 0 0 0 mac0 [] ∷ []) ∷ []))) (11 ∷ [])
+    ∷ case (accept (book [] (segment 0 0 (entry 1 0 0 0 0 0 mac0 (peer 3 0 0 0 0 0 mac0 ∷ []) ∷ entry 2 0 0 0 0 0 mac0 (replicate 4 (peer 3 0 0 0 0 0 mac0)) ∷ entry 1 0 0 0 0 0 mac0 [] ∷ []) ∷ []))) (11 ∷ [])
+    -- 11 of the second body, of the first non-core, of the last of 64
+    ∷ case (accept (book [] (through (1 ∷ 2 ∷ []) ∷ through (1 ∷ 1 ∷ []) ∷ []))) (11 ∷ [])
+    ∷ case (accept (book (through (1 ∷ 2 ∷ []) ∷ []) (through (1 ∷ 1 ∷ []) ∷ through (1 ∷ 2 ∷ []) ∷ []))) (11 ∷ [])
+    ∷ case (accept (sized 3 61 52 (replicate 63 (says 0 0) ++ (saysTwice ∷ [])) twice)) (11 ∷ [])
+    -- an earlier body's 11 before a later body's 6, and before its 7
+    ∷ case (accept (sized 0 2 78 (saysTwice ∷ says 1 26 ∷ []) (twice ++ blank 5))) (11 ∷ [])
+    ∷ case (accept (sized 1 1 78 (saysTwice ∷ says 1 26 ∷ []) (twice ++ blank 5))) (11 ∷ [])
+    ∷ case (accept (sized 0 2 79 (saysTwice ∷ says 1 27 ∷ []) (twice ++ blank 0 ++ (0 ∷ [])))) (11 ∷ [])
+    ∷ case (accept (sized 0 2 77 (saysTwice ∷ says 1 25 ∷ []) (twice ++ replicate 25 0))) (11 ∷ [])
+    ∷ case (accept (sized 0 2 78 (saysTwice ∷ says 1 26 ∷ []) (twice ++ blank 1))) (11 ∷ [])
+    -- a later body's 11 after an earlier body's 6, and after its 7
+    ∷ case (accept (sized 0 2 78 (says 1 26 ∷ saysTwice ∷ []) (blank 5 ++ twice))) (6 ∷ [])
+    ∷ case (accept (sized 1 1 78 (says 1 26 ∷ saysTwice ∷ []) (blank 5 ++ twice))) (6 ∷ [])
+    ∷ case (accept (sized 0 2 79 (says 1 27 ∷ saysTwice ∷ []) (blank 0 ++ (0 ∷ []) ++ twice))) (7 ∷ [])
+    ∷ case (accept (sized 0 2 77 (says 1 25 ∷ saysTwice ∷ []) (replicate 25 0 ++ twice))) (7 ∷ [])
+    -- a body's own 6 before its 11: five peers at the entry after the two, and before them
+    ∷ case (accept (sized 0 1 78 (says 3 78 ∷ []) (twice ++ blank 5))) (6 ∷ [])
+    ∷ case (accept (sized 1 0 78 (says 3 78 ∷ []) (twice ++ blank 5))) (6 ∷ [])
+    ∷ case (accept (sized 0 1 193 (says 3 193 ∷ []) (blank 5 ++ replicate 115 0 ++ twice))) (6 ∷ [])
+    -- its own 7 before its 11: bytes remain; an entry, and a peer, after the two lack one
+    ∷ case (accept (sized 0 1 53 (says 2 53 ∷ []) (twice ++ (0 ∷ [])))) (7 ∷ [])
+    ∷ case (accept (sized 1 0 53 (says 2 53 ∷ []) (twice ++ (0 ∷ [])))) (7 ∷ [])
+    ∷ case (accept (sized 0 1 77 (says 3 77 ∷ []) (twice ++ replicate 25 0))) (7 ∷ [])
+    ∷ case (accept (sized 0 1 100 (says 3 100 ∷ []) (twice ++ blank 1 ++ replicate 22 0))) (7 ∷ [])
+    -- 5 of a later head, the sum's 7, also where it is B and 65,536 more, 1, 2, 3 and 4 before an earlier body's 11
+    ∷ case (accept (sized 0 2 52 (saysTwice ∷ says 17 0 ∷ []) twice)) (5 ∷ [])
+    ∷ case (accept (sized 0 1 53 (saysTwice ∷ []) (twice ++ (0 ∷ [])))) (7 ∷ [])
+    ∷ case (accept (sized 0 2 52 (saysTwice ∷ says 0 1 ∷ []) twice)) (7 ∷ [])
+    ∷ case (accept (sized 0 3 52 (saysTwice ∷ (replicate 8 0 ++ (255 ∷ 255 ∷ [])) ∷ says 0 1 ∷ []) twice)) (7 ∷ [])
+    ∷ case (accept (sized 0 1 53 (saysTwice ∷ []) twice)) (1 ∷ [])
+    ∷ case (accept (sized 0 1 52 (saysTwice ∷ []) (twice ++ (0 ∷ [])))) (2 ∷ [])
+    ∷ case (accept (sized 0 1 52 (saysTwice ∷ []) (twice ++ replicate 61371 0))) (3 ∷ [])
+    ∷ case (accept (sized 1 64 52 (saysTwice ∷ replicate 64 (says 0 0)) twice)) (4 ∷ [])
+    -- 11 before 8, 9 and 10, and with equal ends; zeros in the output; where the other segment has a solution
+    ∷ case (list workedTwice a111 a110 16) (65547 ∷ replicate 16 0)
+    ∷ case (list workedTwice a111 a110 0) (65547 ∷ [])
+    ∷ case (list workedTwice a111 a111 16) (65547 ∷ replicate 16 0)
+    ∷ case (route workedTwice a111 a110 16) (65547 ∷ replicate 16 0)
+    ∷ case (route workedTwice a111 a110 0) (65547 ∷ [])
+    ∷ case (assemble workedTwice a111 a110 (solution 1 (edge 0 0 0 0 ∷ [])) pathSize) (65547 ∷ replicate pathSize 0)
+    ∷ case (assemble workedTwice a111 a110 (solution 1 (edge 0 0 0 0 ∷ [])) (pathSize - 1)) (65547 ∷ replicate (pathSize - 1) 0)
+    ∷ case (assemble workedTwice a111 a110 [] 3) (65547 ∷ replicate 3 0)
+    ∷ case (print (input workedTwice a111 a110)) (Printed.ascii "refused 11\n")
     -- a refused book: listing and assembly give its number, whatever else is wrong, and zeros
     ∷ case (list (replicate 9 0) a111 a110 20) (65538 ∷ replicate 20 0)
     ∷ case (list (replicate 9 0) a111 a110 0) (65538 ∷ [])
@@ -545,10 +674,10 @@ unfolding table hashed PinnedCases.table RouteCases.table unhashed every right a
     Basics.any Basics.filter Basics.range Basics.sum Basics.sameList Basics.padded
     Octets.be16 Octets.be32 Octets.be64 Octets.octets2 Octets.octets4 Octets.octets8
     Book.cores Book.nonCores Book.bodyTotal Book.segmentCount Book.headOffset Book.timestampAt Book.idAt Book.entryCountAt Book.bodyLengthAt
-    Book.lengthsBelow Book.bodyOffset Book.wholeLength Book.peerCount Book.entryEnd Book.entriesVerdict Book.bodyVerdict Book.bodiesVerdict
-    Book.isLong Book.tooLong Book.verdict Book.isdAsnAt Book.macAt Book.asEntryAt Book.peerEntryAt Book.peerOffset Book.peerOfEntryAt Book.entryAt
+    Book.lengthsBelow Book.bodyOffset Book.wholeLength Book.peerCount Book.entryEnd Book.entriesVerdict Book.isdAsnAt Book.sameAs Book.entryOffset Book.localAt
+    Book.hasLocalOf Book.standsEarlier Book.passesTwice Book.bodyVerdict Book.bodiesVerdict Book.isLong Book.tooLong Book.verdict Book.macAt Book.asEntryAt Book.peerEntryAt Book.peerOffset Book.peerOfEntryAt Book.entryAt
     Book.entriesAt Book.segmentAt Book.segments
-    Edges.sameAs Edges.sameVertex Edges.noEntry Edges.noPeer Edges.entryOf Edges.asOf Edges.leafAs Edges.peerOf Edges.inConstruction Edges.edgeOf
+    Edges.sameVertex Edges.noEntry Edges.noPeer Edges.entryOf Edges.asOf Edges.leafAs Edges.peerOf Edges.inConstruction Edges.edgeOf
     Edges.addCoreSegment Edges.asInsertions Edges.peerInsertions Edges.entryInsertions Edges.insertions Edges.sameEnds Edges.lasting
     Edges.sameBool Edges.sameSegment Edges.isEarlier Edges.isFirst Edges.firsts Edges.storedOf Edges.storedEdges
     Chains.allowedKinds Chains.leaves Chains.leaving Chains.beginning Chains.walks Chains.chains

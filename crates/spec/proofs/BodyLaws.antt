@@ -9,11 +9,11 @@ use mathlib.Core.List.{List}
 use lib.ListN.{length, getD}
 use lib.Dec.{ltb, eqb}
 use borrow.Author.Tests.{ltb-false, eqb-true, eqb-false}
-use Rattle.spec.specs.declared.Refusal.the-variants.{Peers, Misfit}
+use Rattle.spec.specs.declared.Refusal.the-variants.{Peers, Misfit, Twice}
 use Rattle.spec.specs.declared.Verdict.{Verdict}
 use Rattle.spec.specs.declared.Verdict.the-variants.{Accepted, Refused}
 use Rattle.spec.specs.Limits.{entrySize, peerSize, maxPeers}
-use Rattle.spec.specs.Book.{segmentCount, bodyTotal, wholeLength, headOffset, lengthsBelow, bodyLengthAt, bodyOffset, bodyVerdict, bodiesVerdict, entriesVerdict, _andThen_, entryCountAt, entryAt, entriesAt, entryOffset, entryEnd, peerCount, peerOffset, segmentAt}
+use Rattle.spec.specs.Book.{segmentCount, bodyTotal, wholeLength, headOffset, lengthsBelow, bodyLengthAt, bodyOffset, passesTwice, bodyVerdict, bodiesVerdict, entriesVerdict, _andThen_, entryCountAt, entryAt, entriesAt, entryOffset, entryEnd, peerCount, peerOffset, segmentAt}
 use Rattle.spec.specs.Edges.{noEntry, entryOf}
 use Rattle.spec.proofs.BookLaws.{AcceptedBook, passed}
 
@@ -53,7 +53,7 @@ module _ (b : List ℕ) (end : ℕ) where
       let p₃ = passed (ltb end (entryEnd b at)) Misfit _ (p₂ .1) in
       (record { entry = ltb-false _ _ (p₁ .0); few = ltb-false _ _ (p₂ .0); peers = ltb-false _ _ (p₃ .0) }, p₃ .1)
 
-  good-places : (n at : ℕ) → entriesVerdict b end at n ≡ Accepted → (i : ℕ) → i < n → GoodPlace b end (entryOffset b at i)
+  pub good-places : (n at : ℕ) → entriesVerdict b end at n ≡ Accepted → (i : ℕ) → i < n → GoodPlace b end (entryOffset b at i)
   good-places zero at q i h = absurd (omega arith)
   good-places (suc n) at q zero h = unfold entryOffset in good-first at n q .0
   good-places (suc n) at q (suc i) h =
@@ -104,6 +104,15 @@ module _ (b : List ℕ) (a : AcceptedBook b) (k : ℕ) (h : k < segmentCount b) 
   pub body-accepted : bodyVerdict b k ≡ Accepted
   body-accepted = bodies-accepted b (segmentCount b) 0 (a .bodies) k (omega arith) (omega arith)
 
+  -- its entries fit, and none has an AS that stands earlier
+  entries-accepted : entriesVerdict b (bodyOffset b k + bodyLengthAt b k) (bodyOffset b k) (entryCountAt b k) ≡ Accepted
+  unfolding bodyVerdict
+  entries-accepted = both-accepted _ _ body-accepted .0
+
+  pub not-twice : passesTwice b k ≡ false
+  unfolding bodyVerdict
+  not-twice = passed (passesTwice b k) Twice Accepted (both-accepted (entriesVerdict b (bodyOffset b k + bodyLengthAt b k) (bodyOffset b k) (entryCountAt b k)) _ body-accepted .1) .0
+
   -- a body is inside the book
   pub body-end : bodyOffset b k + bodyLengthAt b k ≤ length b
   unfolding bodyOffset wholeLength lengthsBelow
@@ -115,8 +124,7 @@ module _ (b : List ℕ) (a : AcceptedBook b) (k : ℕ) (h : k < segmentCount b) 
 
   -- entry i and its peers are inside the body
   pub entry-place : (i : ℕ) → i < entryCountAt b k → GoodPlace b (bodyOffset b k + bodyLengthAt b k) (entryOffset b (bodyOffset b k) i)
-  unfolding bodyVerdict
-  entry-place i l = good-places b (bodyOffset b k + bodyLengthAt b k) (entryCountAt b k) (bodyOffset b k) body-accepted i l
+  entry-place i l = good-places b (bodyOffset b k + bodyLengthAt b k) (entryCountAt b k) (bodyOffset b k) entries-accepted i l
 
   -- a peer is inside the body
   pub peer-place : (i p : ℕ) → i < entryCountAt b k → p < peerCount b (entryOffset b (bodyOffset b k) i)
@@ -128,5 +136,4 @@ module _ (b : List ℕ) (a : AcceptedBook b) (k : ℕ) (h : k < segmentCount b) 
 
   -- the entries fill the body
   pub body-filled : entryOffset b (bodyOffset b k) (entryCountAt b k) ≡ bodyOffset b k + bodyLengthAt b k
-  unfolding bodyVerdict
-  body-filled = filled b (bodyOffset b k + bodyLengthAt b k) (entryCountAt b k) (bodyOffset b k) (omega arith) body-accepted
+  body-filled = filled b (bodyOffset b k + bodyLengthAt b k) (entryCountAt b k) (bodyOffset b k) (omega arith) entries-accepted

@@ -77,7 +77,7 @@ mem-range i (suc k) x h l = go (mem-range (i + 1) k x) (eqb x i) refl
     go ih true q = head (eqb-true x i q)
     go ih false q = let n = eqb-false x i q in tail (ih (omega arith) (omega arith))
 
-any-none : {A : Type 0} (p : A → Bool) (xs : List A) → any p xs ≡ false → {x : A} → Mem x xs → p x ≡ false
+pub any-none : {A : Type 0} (p : A → Bool) (xs : List A) → any p xs ≡ false → {x : A} → Mem x xs → p x ≡ false
 any-none p xs q {x} m = go (p x) refl
   where
     go : (t : Bool) → p x ≡ t → t ≡ false

@@ -2,7 +2,7 @@
 -- Every answer is the specification's own. No case depends on the digest.
 -- Assumes nothing.
 use Prim.Native.Nat.{ℕ}
-use mathlib.Core.List.{List, [], _∷_, _++_, flatMap}
+use mathlib.Core.List.{List, [], _∷_, _++_, map, flatMap}
 use lib.ListN.{replicate}
 use lib.Dec.{T}
 use Rattle.spec.specs.Basics
@@ -16,7 +16,7 @@ use Rattle.spec.specs.Records
 use Rattle.spec.specs.Answers
 use Rattle.spec.specs.Printed
 use Rattle.spec.specs.Routes
-use Rattle.spec.proofs.CasesForm.{entry, peer, Draft, segment, book, edge, solution, accept, list, route, print, live, input, Case, case, answer, right, every, a110, a111, a112, mac0, mac1}
+use Rattle.spec.proofs.CasesForm.{entry, peer, Draft, segment, book, inRow, edge, solution, accept, list, route, print, live, input, Case, case, answer, right, every, a110, a111, a112, mac0, mac1}
 
 -- ---- the books
 
@@ -53,7 +53,11 @@ copiesBook timestamp =
     ∷ [])
 
 abbrev pub manyEntries : ℕ → List ℕ
-manyEntries n = book [] (segment 1 2 (replicate n (entry a110 1500 0 0 1 63 mac0 [])) ∷ [])
+manyEntries n = book [] (segment 1 2 (map (λ local. entry local 1500 0 0 1 63 mac0 []) (inRow a110 n)) ∷ [])
+
+-- a segment of two entries that have their AS in common, and nothing else
+abbrev pub twiceBook : List ℕ
+twiceBook = book [] (segment 1 2 (entry a110 1500 0 0 1 63 mac0 [] ∷ entry a110 1400 1350 2 0 62 mac1 [] ∷ []) ∷ [])
 
 -- ---- the table
 
@@ -68,6 +72,11 @@ table =
     -- 16 entries pass, 17: 5
     ∷ case (accept (manyEntries 16)) (0 ∷ [])
     ∷ case (accept (manyEntries 17)) (5 ∷ [])
+    -- two entries of one AS: 11
+    ∷ case (accept twiceBook) (11 ∷ [])
+    ∷ case (list twiceBook a111 a110 0) (65547 ∷ [])
+    ∷ case (route twiceBook a111 a110 0) (65547 ∷ [])
+    ∷ case (print (input twiceBook a111 a110)) (Printed.ascii "refused 11\n")
     -- the worked list, and with the ends reversed
     ∷ case (print (input workedBook a111 a110))
     (Printed.ascii "solutions 1 paths 1\n1 cost 1 segments 1 mtu 1350 expiry 1021600 hops 2\ninfo 0 1336 1000000\nif 0001ff0000000111 7\nif 0001ff0000000110 5\n")
@@ -105,9 +114,9 @@ unfolding table every right answer flatMap
     Basics.any Basics.filter Basics.range Basics.sum Basics.sameList Basics.padded
     Octets.be16 Octets.be32 Octets.be64 Octets.octets2 Octets.octets4 Octets.octets8
     Book.cores Book.nonCores Book.bodyTotal Book.segmentCount Book.headOffset Book.timestampAt Book.idAt Book.entryCountAt Book.bodyLengthAt
-    Book.lengthsBelow Book.bodyOffset Book.wholeLength Book.peerCount Book.entryEnd Book.entriesVerdict Book.bodyVerdict Book.bodiesVerdict
-    Book.isLong Book.tooLong Book.verdict Book.isdAsnAt Book.macAt Book.asEntryAt Book.peerEntryAt Book.peerOffset Book.peerOfEntryAt Book.entryAt Book.entriesAt Book.segmentAt Book.segments
-    Edges.sameAs Edges.sameVertex Edges.noEntry Edges.noPeer Edges.entryOf Edges.asOf Edges.leafAs Edges.peerOf Edges.edgeOf Edges.addCoreSegment
+    Book.lengthsBelow Book.bodyOffset Book.wholeLength Book.peerCount Book.entryEnd Book.entriesVerdict Book.isdAsnAt Book.sameAs Book.entryOffset Book.localAt
+    Book.hasLocalOf Book.standsEarlier Book.passesTwice Book.bodyVerdict Book.bodiesVerdict Book.isLong Book.tooLong Book.verdict Book.macAt Book.asEntryAt Book.peerEntryAt Book.peerOffset Book.peerOfEntryAt Book.entryAt Book.entriesAt Book.segmentAt Book.segments
+    Edges.sameVertex Edges.noEntry Edges.noPeer Edges.entryOf Edges.asOf Edges.leafAs Edges.peerOf Edges.edgeOf Edges.addCoreSegment
     Edges.asInsertions Edges.peerInsertions Edges.entryInsertions Edges.insertions Edges.sameEnds Edges.lasting Edges.sameBool Edges.sameSegment
     Edges.inConstruction Edges.isEarlier Edges.isFirst Edges.firsts Edges.storedOf Edges.storedEdges
     Chains.allowedKinds Chains.leaves Chains.leaving Chains.beginning Chains.walks Chains.chains

@@ -3,7 +3,7 @@
 use Prim.Native.Nat.{ℕ, _+_, _-_, _*_}
 use mathlib.Core.Bool.{Bool, true, _&&_}
 use mathlib.Core.List.{List, [], _∷_, _++_, map, flatMap}
-use lib.ListN.{length, replicate}
+use lib.ListN.{length, replicate, take}
 use Rattle.spec.specs.declared.IsdAsn.{IsdAsn}
 use Rattle.spec.specs.Limits.{pathSize}
 use Rattle.spec.specs.Basics.{sameList}
@@ -50,6 +50,10 @@ abbrev pub book : List Draft → List Draft → List ℕ
 book cores others =
     let bodies : List ℕ = flatMap body (cores ++ others) in
     octets2 (length cores) ++ octets2 (length others) ++ octets4 (length bodies) ++ flatMap head (cores ++ others) ++ bodies
+
+-- so many ASes in a row, from one on; at most 17
+abbrev pub inRow : ℕ → ℕ → List ℕ
+inRow first n = map (λ i. first + i) (take n (0 ∷ 1 ∷ 2 ∷ 3 ∷ 4 ∷ 5 ∷ 6 ∷ 7 ∷ 8 ∷ 9 ∷ 10 ∷ 11 ∷ 12 ∷ 13 ∷ 14 ∷ 15 ∷ 16 ∷ []))
 
 -- ---- solution records: position, shortcut, peer index plus 1 or 0, direction for each edge
 
@@ -152,6 +156,10 @@ a113 = 0x0001_ff00_0000_0113
 
 abbrev pub a114 : ℕ
 a114 = 0x0001_ff00_0000_0114
+
+-- the first of many ASes
+abbrev pub a200 : ℕ
+a200 = 0x0001_ff00_0000_0200
 
 -- a110's AS number in another ISD
 abbrev pub b110 : ℕ

@@ -15,7 +15,8 @@ use Rattle.spec.specs.declared.Vertex.the-variants.{AS}
 use Rattle.spec.specs.declared.Edge.{Edge}
 use Rattle.spec.specs.Limits.{maxEdges}
 use Rattle.spec.specs.Basics.{if_then_else_, filter}
-use Rattle.spec.specs.Edges.{sameAs, sameVertex, storedEdges}
+use Rattle.spec.specs.Book.{sameAs}
+use Rattle.spec.specs.Edges.{sameVertex, storedEdges}
 use Rattle.spec.specs.Chains.{allowedKinds, Leads, IsChain, leaves, leaving, beginning, walks, chains}
 use Rattle.spec.proofs.Membership.{T-true, true-T, not-both, filter-mem, mem-filter, map-mem, mem-map, flatMap-mem, mem-flatMap}
 use Rattle.spec.proofs.Vertices.{sameAs-eq, sameAs-refl, sameVertex-eq, eq-sameVertex}

@@ -13,7 +13,7 @@ use lib.Dec.{eqb, ltb}
 use borrow.Author.Tests.{eqb-true, eq-eqb, ltb-true, ltb-false}
 use Rattle.spec.specs.declared.PathInterface.{PathInterface}
 use Rattle.spec.specs.Basics.{if_then_else_, any, filter, Once}
-use Rattle.spec.specs.Edges.{sameAs}
+use Rattle.spec.specs.Book.{sameAs}
 use Rattle.spec.proofs.Membership.{and-true, true-and, not-both, map-mem, mem-map, once-append}
 use Rattle.spec.specs.Routes.{sameInterface, sameInterfaces, longer, hold, holdAll}
 use Rattle.spec.specs.RouteDemand.{addNew, appearances, Best}

@@ -15,8 +15,8 @@ use Rattle.spec.specs.declared.Vertex.the-variants.{AS}
 use Rattle.spec.specs.declared.Edge.{Edge}
 use Rattle.spec.specs.Limits.{maxEdges}
 use Rattle.spec.specs.Basics.{if_then_else_, any, filter, range, Once}
-use Rattle.spec.specs.Book.{Segment, segmentAt, segments, segmentCount}
-use Rattle.spec.specs.Edges.{sameAs, sameVertex, sameEnds, inConstruction, edgeOf, addCoreSegment, asInsertions, peerInsertions, entryInsertions, insertions, lasting, firsts, storedOf, storedEdges, entryOf, asOf, leafAs}
+use Rattle.spec.specs.Book.{sameAs, Segment, segmentAt, segments, segmentCount}
+use Rattle.spec.specs.Edges.{sameVertex, sameEnds, inConstruction, edgeOf, addCoreSegment, asInsertions, peerInsertions, entryInsertions, insertions, lasting, firsts, storedOf, storedEdges, entryOf, asOf, leafAs}
 use Rattle.spec.specs.Chains.{allowedKinds, IsChain, leaving, beginning, walks, chains}
 use Rattle.spec.specs.Order.{compareChains, isLt, insert, insertAll, solutions}
 use Rattle.spec.proofs.Membership.{not-both, true-and, filter-mem, map-mem, flatMap-mem, once-filter, once-map, once-flatMap}

@@ -35,6 +35,10 @@ six timestamp egress =
 abbrev pub down : ℕ → ℕ → Draft
 down timestamp egress = segment timestamp 1 (plain a110 0 egress ∷ plain a112 4 0 ∷ [])
 
+-- from a111 to a110 by a112, at three of its interfaces: a Loop
+abbrev pub loop : List Draft
+loop = segment 3000 1 (plain a112 0 3 ∷ plain a111 4 0 ∷ []) ∷ segment 3000 1 (plain a112 5 6 ∷ plain a110 7 0 ∷ []) ∷ []
+
 -- the routes from a111 to a110 over non-core segments, in so many bytes
 abbrev pub up : List Draft → ℕ → Question
 up segments bytes = route (book [] segments) a111 a110 bytes
@@ -137,16 +141,16 @@ table =
     ∷ case (up (link 1000 1 1 ∷ link 1000 1 3 ∷ link 1000 1 8 ∷ link 1000 1 13 ∷ link 1000 1 16 ∷ link 1001 1 16 ∷ []) 96)
     (5 ∷ (whole 0 ++ whole 1 ++ whole 2 ++ whole 3 ++ whole 5 ++ replicate 16 0))
     -- a Loop between two copies is left out, though it lives longest
-    ∷ case (up (long 1000 5 a112 a113 ∷ long 3000 6 a112 a112 ∷ long 2000 7 a112 a113 ∷ []) 48) (1 ∷ (cut 2 ++ replicate 32 0))
+    ∷ case (up (link 1000 1 1 ∷ segment 2000 1 (plain a110 0 1 ∷ plain a113 0 0 ∷ plain a114 0 0 ∷ plain a111 2 0 ∷ []) ∷ loop) 48) (1 ∷ (solution 3 (edge 1 0 0 0 ∷ []) ++ replicate 32 0))
     -- only a Loop: no route
-    ∷ case (up (long 1500 6 a112 a112 ∷ []) 16) (0 ∷ replicate 16 0)
+    ∷ case (up loop 16) (0 ∷ replicate 16 0)
     -- a Bare beside a path is left out
     ∷ case (up (link 1000 1 1 ∷ segment 3000 1 (plain a110 0 0 ∷ plain a111 0 0 ∷ []) ∷ []) 32) (1 ∷ (whole 0 ++ replicate 16 0))
     -- only a Bare: no route
     ∷ case (up (segment 3000 1 (plain a110 0 0 ∷ plain a111 0 0 ∷ []) ∷ []) 16) (0 ∷ replicate 16 0)
     -- 14.3: Full counts solutions: three, of one route; a Loop, a Bare, a path
     ∷ case (up (link 1010 1 1 ∷ link 1030 1 1 ∷ link 1020 1 1 ∷ []) 47) (65544 ∷ replicate 47 0)
-    ∷ case (up (long 1500 6 a112 a112 ∷ []) 15) (65544 ∷ replicate 15 0)
+    ∷ case (up loop 15) (65544 ∷ replicate 15 0)
     ∷ case (up (segment 3000 1 (plain a110 0 0 ∷ plain a111 0 0 ∷ []) ∷ []) 0) (65544 ∷ [])
     ∷ case (up (link 1000 1 1 ∷ []) 0) (65544 ∷ [])
     -- a longer output: zeros up to its end

@@ -8,7 +8,8 @@ use borrow.Author.Tests.{eqb-true, eq-eqb}
 use Rattle.spec.specs.declared.IsdAsn.{IsdAsn}
 use Rattle.spec.specs.declared.Vertex.{Vertex}
 use Rattle.spec.specs.declared.Vertex.the-variants.{AS, Peering}
-use Rattle.spec.specs.Edges.{sameAs, sameVertex}
+use Rattle.spec.specs.Book.{sameAs}
+use Rattle.spec.specs.Edges.{sameVertex}
 use Rattle.spec.proofs.Membership.{and-true, true-and}
 
 pub sameAs-eq : (a b : IsdAsn) → sameAs a b ≡ true → a ≡ b

@@ -16,8 +16,8 @@ use Rattle.spec.specs.declared.PathAnswer.the-variants.{Path, Loop, Bare
 use Rattle.spec.specs.Limits.{maxTime, maxMtu}
 use Rattle.spec.specs.Basics.{if_then_else_, any, filter, range}
 use Rattle.spec.specs.Octets.{be16}
-use Rattle.spec.specs.Book.{Entry, Segment, segmentAt}
-use Rattle.spec.specs.Edges.{sameAs, entryOf, asOf, peerOf}
+use Rattle.spec.specs.Book.{sameAs, Entry, Segment, segmentAt}
+use Rattle.spec.specs.Edges.{entryOf, asOf, peerOf}
 
 -- 6.4, 6.8: the least of some numbers and of m
 unfoldable pub least : ℕ → List ℕ → ℕ

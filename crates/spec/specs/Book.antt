@@ -11,7 +11,7 @@ use Rattle.spec.specs.declared.Sizes.{Sizes}
 use Rattle.spec.specs.declared.Head.{Head}
 use Rattle.spec.specs.declared.AsEntry.{AsEntry}
 use Rattle.spec.specs.declared.PeerEntry.{PeerEntry}
-use Rattle.spec.specs.declared.Refusal.the-variants.{Cut, Surplus, Oversize, Crowded, Long, Peers, Misfit}
+use Rattle.spec.specs.declared.Refusal.the-variants.{Cut, Surplus, Oversize, Crowded, Long, Peers, Misfit, Twice}
 use Rattle.spec.specs.declared.Verdict.{Verdict}
 use Rattle.spec.specs.declared.Verdict.the-variants.{Accepted, Refused}
 use Rattle.spec.specs.Limits.{sizesSize, headSize, entrySize, peerSize, peerCountOffset, maxBook, maxSegments, maxEntries, maxPeers}
@@ -72,7 +72,7 @@ bodyOffset b k = headOffset (segmentCount b) + lengthsBelow b k
 unfoldable pub wholeLength : List ℕ → ℕ
 wholeLength b = headOffset (segmentCount b) + bodyTotal b
 
--- ---- the answer about the book alone
+-- ---- entries: their places and ASes
 
 -- 2.4: how many peers the entry at an offset has
 unfoldable pub peerCount : List ℕ → ℕ → ℕ
@@ -81,6 +81,24 @@ peerCount b at = getD b (at + peerCountOffset) 0
 -- 2.4: past the entry at an offset and its peers
 unfoldable pub entryEnd : List ℕ → ℕ → ℕ
 entryEnd b at = at + entrySize + peerSize * peerCount b at
+
+-- 1.3: the AS at an offset, and the same AS
+unfoldable pub isdAsnAt : List ℕ → ℕ → IsdAsn
+isdAsnAt b at = record { 0 = be64 b at }
+
+unfoldable pub sameAs : IsdAsn → IsdAsn → Bool
+sameAs a b = eqb (a .0) (b .0)
+
+-- 2.4: where entry i of a body that starts at an offset starts
+unfoldable pub entryOffset : List ℕ → ℕ → ℕ → ℕ
+entryOffset b at zero = at
+entryOffset b at (suc i) = entryEnd b (entryOffset b at i)
+
+-- 2.4: the AS of entry i of the body at position k
+unfoldable pub localAt : List ℕ → ℕ → ℕ → IsdAsn
+localAt b k i = isdAsnAt b (entryOffset b (bodyOffset b k) i)
+
+-- ---- the answer about the book alone
 
 -- 9.4: the entries of a body from an offset on, as many as are left; the body ends at `end`. At each entry: Misfit if its own bytes are
 -- lacking, Peers, Misfit if its peers are lacking; after the last entry Misfit if bytes remain
@@ -93,15 +111,29 @@ entriesVerdict b end at (suc left) =
     else if ltb end (entryEnd b at) then Refused Misfit
     else next
 
--- 9.4: the body at position k: as many entries as its head says, in as many bytes
-unfoldable pub bodyVerdict : List ℕ → ℕ → Verdict
-bodyVerdict b k = entriesVerdict b (bodyOffset b k + bodyLengthAt b k) (bodyOffset b k) (entryCountAt b k)
-
 -- 9.3: the first refusal of the two, if there is one
 infixr 4 _andThen_
 abbrev pub _andThen_ : Verdict → Verdict → Verdict
 Accepted andThen v = v
 (Refused r) andThen v = Refused r
+
+-- 9.4: entry j of the body at position k has the AS of entry i
+unfoldable pub hasLocalOf : List ℕ → ℕ → ℕ → ℕ → Bool
+hasLocalOf b k i j = sameAs (localAt b k j) (localAt b k i)
+
+-- 9.4: the AS of entry i stands earlier in the same segment: one of the entries before it has it
+unfoldable pub standsEarlier : List ℕ → ℕ → ℕ → Bool
+standsEarlier b k i = any (hasLocalOf b k i) (range 0 i)
+
+-- 9.4: the AS of some entry does: the segment passes one AS twice
+unfoldable pub passesTwice : List ℕ → ℕ → Bool
+passesTwice b k = any (standsEarlier b k) (range 0 (entryCountAt b k))
+
+-- 9.4: the body at position k: as many entries as its head says, in as many bytes; then Twice
+unfoldable pub bodyVerdict : List ℕ → ℕ → Verdict
+bodyVerdict b k =
+    entriesVerdict b (bodyOffset b k + bodyLengthAt b k) (bodyOffset b k) (entryCountAt b k)
+    andThen (if passesTwice b k then Refused Twice else Accepted)
 
 -- 9.3: the bodies from position k on, as many as are left
 unfoldable pub bodiesVerdict : List ℕ → ℕ → ℕ → Verdict
@@ -144,10 +176,6 @@ pub record Segment : Type 0 where
   pub body : List ℕ
   pub entries : List Entry
 
--- 1.3: the AS at an offset
-unfoldable pub isdAsnAt : List ℕ → ℕ → IsdAsn
-isdAsnAt b at = record { 0 = be64 b at }
-
 -- 1.4: the MAC at an offset
 unfoldable pub macAt : List ℕ → ℕ → List ℕ
 macAt b at =
@@ -189,11 +217,6 @@ entryAt b at =
       own = asEntryAt b at;
       peers = map (peerOfEntryAt b at) (range 0 (peerCount b at));
     }
-
--- 2.4: where entry i of a body that starts at an offset starts
-unfoldable pub entryOffset : List ℕ → ℕ → ℕ → ℕ
-entryOffset b at zero = at
-entryOffset b at (suc i) = entryEnd b (entryOffset b at i)
 
 -- 2.4: as many entries from an offset on
 unfoldable pub entriesAt : List ℕ → ℕ → ℕ → List Entry

@@ -11,7 +11,8 @@ use Rattle.spec.specs.declared.Vertex.the-variants.{AS}
 use Rattle.spec.specs.declared.Edge.{Edge}
 use Rattle.spec.specs.Limits.{maxEdges}
 use Rattle.spec.specs.Basics.{if_then_else_, filter}
-use Rattle.spec.specs.Edges.{sameAs, sameVertex, storedEdges}
+use Rattle.spec.specs.Book.{sameAs}
+use Rattle.spec.specs.Edges.{sameVertex, storedEdges}
 
 -- 4.1: one of any kind; two, not both core; three, only non-core, core, non-core
 unfoldable pub allowedKinds : List Edge → Bool

@@ -11,13 +11,9 @@ use Rattle.spec.specs.declared.Vertex.the-variants.{AS, Peering}
 use Rattle.spec.specs.declared.Edge.{Edge}
 use Rattle.spec.specs.declared.PeerEntry.{PeerEntry}
 use Rattle.spec.specs.Basics.{if_then_else_, any, filter, range, sameList}
-use Rattle.spec.specs.Book.{Entry, Segment, segments, entryAt, peerEntryAt}
+use Rattle.spec.specs.Book.{Entry, Segment, sameAs, segments, entryAt, peerEntryAt}
 
 -- ---- vertices
-
--- 1.3: the same AS
-unfoldable pub sameAs : IsdAsn → IsdAsn → Bool
-sameAs a b = eqb (a .0) (b .0)
 
 -- 3.1: the same vertex
 unfoldable pub sameVertex : Vertex → Vertex → Bool

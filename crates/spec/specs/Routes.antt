@@ -13,8 +13,7 @@ use Rattle.spec.specs.declared.Verdict.{Verdict}
 use Rattle.spec.specs.declared.Verdict.the-variants.{Accepted, Refused as RefusedBook}
 use Rattle.spec.specs.declared.ListAnswer.the-variants.{Count}
 use Rattle.spec.specs.Basics.{if_then_else_, filter, padded}
-use Rattle.spec.specs.Book.{verdict}
-use Rattle.spec.specs.Edges.{sameAs}
+use Rattle.spec.specs.Book.{sameAs, verdict}
 use Rattle.spec.specs.Order.{solutions}
 use Rattle.spec.specs.Assembly.{combinedPath}
 use Rattle.spec.specs.Records.{solutionOctets, slots}

@@ -1,6 +1,6 @@
-// The answers 1 to 7 about a book, at each limit and one past it, a byte short and a byte more, and which comes first where
+// The answers 1 to 7 and 11 about a book, at each limit and one past it, a byte short and a byte more, and which comes first where
 // two apply. Each line is a book and the number of its answer, 0 where it is accepted. The numbers in the file `stdout` were
-// worked out by hand from docs/SPECIFICATION.md 9.3. All that a book does not state is zero.
+// worked out by hand from docs/SPECIFICATION.md 9.3 and 9.4. All that a book does not state is zero.
 use spec::AsEntry;
 use spec::Head;
 use spec::HopField;
@@ -108,8 +108,9 @@ fn hop() -> HopField {
     }
 }
 
-fn entry(peers: u8) -> AsEntry {
-    AsEntry::new(IsdAsn(0), 0, 0, hop(), peers)
+// Of an AS, for which its place is given where no two are to be equal.
+fn entry(local: usize, peers: u8) -> AsEntry {
+    AsEntry::new(IsdAsn(local as u64), 0, 0, hop(), peers)
 }
 
 // What stands before the body of one segment.
@@ -120,8 +121,8 @@ fn segment(h: Head, bodies: u16, first: u8, second: u8, length: usize) {
     let mut book = [0u8; ROOM];
     let to_head = builder::put_sizes(&mut book, 0, sizes(0, 1, bodies as u32));
     let to_first = builder::put_head(&mut book, to_head, h);
-    let to_second = builder::put_entry(&mut book, to_first, entry(first));
-    builder::put_entry(&mut book, to_second, entry(second));
+    let to_second = builder::put_entry(&mut book, to_first, entry(to_first, first));
+    builder::put_entry(&mut book, to_second, entry(to_second, second));
     answer(&book, length);
 }
 
@@ -142,6 +143,28 @@ fn pair(label: &[u8], body: u16, peers: u8, length: usize) {
     segment(head(2, body), TWO, 0, peers, length);
 }
 
+fn one_segment(core: bool, body: u16) -> Sizes {
+    if core {
+        return sizes(1, 0, body as u32);
+    }
+    sizes(0, 1, body as u32)
+}
+
+// A book of one segment, core or not, of so many entries; entry `again` has the AS of entry `first`.
+fn in_row(label: &[u8], core: bool, count: u8, first: u8, again: u8) {
+    let length = ONE + AsEntry::SIZE * count as usize;
+    let mut book = [0u8; ROOM];
+    let body = count as u16 * ENTRY;
+    let to_head = builder::put_sizes(&mut book, 0, one_segment(core, body));
+    let to_first = builder::put_head(&mut book, to_head, head(count as u16, body));
+    entries(&mut book, to_first, count as usize, 0);
+    let known = ONE + AsEntry::SIZE * first as usize;
+    let at = ONE + AsEntry::SIZE * again as usize;
+    builder::put_entry(&mut book, at, entry(known, 0));
+    say(label);
+    answer(&book, length);
+}
+
 // An entry with the most peers.
 const FULL: u16 = (AsEntry::SIZE + PeerEntry::SIZE * Limits::PEERS) as u16;
 
@@ -149,7 +172,7 @@ fn bodies() {
     pair(b"2 entries", TWO, 0, PAIR);
     pair(b"2 entries, book a byte short", TWO, 0, PAIR - 1);
     pair(b"2 entries, book a byte more", TWO, 0, PAIR + 1);
-    one(b"16 entries", ENTRIES, ENTRIES * ENTRY, 0);
+    in_row(b"16 entries", false, Limits::ENTRIES as u8, 0, 0);
     one(b"17 entries", ENTRIES + 1, (ENTRIES + 1) * ENTRY, 0);
     one(b"256 entries", 256, 0, 0);
     one(b"no entry", 0, 0, 0);
@@ -188,19 +211,19 @@ fn lengths_first() {
     long(b"Surplus before Long", fit + 1);
 }
 
-// A core and a non-core segment of one entry each: their heads, and the peers of the entries. B and the book's length fit.
+// A core and a non-core segment of one entry each, of one AS: their heads, and the peers of the entries. B and the book's length fit.
 fn two(core: Head, other: Head, first: u8, second: u8) {
     let mut book = [0u8; ROOM];
     let to_core = builder::put_sizes(&mut book, 0, sizes(1, 1, TWO as u32));
     let to_other = builder::put_head(&mut book, to_core, core);
     let to_first = builder::put_head(&mut book, to_other, other);
-    let to_second = builder::put_entry(&mut book, to_first, entry(first));
-    builder::put_entry(&mut book, to_second, entry(second));
+    let to_second = builder::put_entry(&mut book, to_first, entry(0, first));
+    builder::put_entry(&mut book, to_second, entry(0, second));
     answer(&book, PAIR + Head::SIZE);
 }
 
 fn heads_first() {
-    say(b"two of 1 entry");
+    say(b"two of 1 entry, of one AS");
     two(head(1, ENTRY), head(1, ENTRY), 0, 0);
     say(b"Long of the last head before Peers of the first body");
     two(head(1, ENTRY), head(ENTRIES + 1, ENTRY), PEERS + 1, 0);
@@ -223,6 +246,123 @@ fn bodies_by_position() {
     two(head(1, ENTRY - 1), head(1, ENTRY + 1), PEERS + 1, 0);
 }
 
+// ---- one AS twice
+
+fn twice() {
+    in_row(b"1 entry", false, 1, 0, 0);
+    in_row(b"1 entry, core", true, 1, 0, 0);
+    in_row(b"2 entries of one AS", false, 2, 0, 1);
+    in_row(b"2 entries of one AS, core", true, 2, 0, 1);
+    in_row(b"first and last of 3", false, 3, 0, 2);
+    in_row(b"first and last of 3, core", true, 3, 0, 2);
+    in_row(b"first and second of 3", false, 3, 0, 1);
+    in_row(b"second and last of 3", false, 3, 1, 2);
+    in_row(b"second and third of 4", false, 4, 1, 2);
+    in_row(b"second and fourth of 5, core", true, 5, 1, 3);
+    in_row(b"first and last of 16", false, 16, 0, 15);
+    in_row(b"first and last of 16, core", true, 16, 0, 15);
+    in_row(b"14th and 15th of 16", false, 16, 13, 14);
+    in_row(b"16 entries, core", true, 16, 0, 0);
+}
+
+// A non-core segment of two entries: their ASes, and the book's length.
+fn ases(label: &[u8], first: usize, second: usize, length: usize) {
+    let mut book = [0u8; ROOM];
+    let to_head = builder::put_sizes(&mut book, 0, sizes(0, 1, TWO as u32));
+    let to_first = builder::put_head(&mut book, to_head, head(2, TWO));
+    let to_second = builder::put_entry(&mut book, to_first, entry(first, 0));
+    builder::put_entry(&mut book, to_second, entry(second, 0));
+    say(label);
+    answer(&book, length);
+}
+
+// ISD 1, AS ff00:0:110.
+const A: usize = 0x0001_ff00_0000_0110;
+
+fn numbers() {
+    ases(b"one AS", A, A, PAIR);
+    ases(b"one AS number in two ISDs", A, 0x0002_ff00_0000_0110, PAIR);
+    ases(b"two AS numbers in one ISD", A, 0x0001_ff00_0000_0120, PAIR);
+    ases(b"bit 63 differs", A, 0x8001_ff00_0000_0110, PAIR);
+    ases(b"bit 48 differs", A, 0x0000_ff00_0000_0110, PAIR);
+    ases(b"bit 47 differs", A, 0x0001_7f00_0000_0110, PAIR);
+    ases(b"bit 32 differs", A, 0x0001_ff01_0000_0110, PAIR);
+    ases(b"bit 31 differs", A, 0x0001_ff00_8000_0110, PAIR);
+    ases(b"bit 0 differs", A, 0x0001_ff00_0000_0111, PAIR);
+    ases(b"Cut before Twice", A, A, PAIR - 1);
+    ases(b"Surplus before Twice", A, A, PAIR + 1);
+    ases(b"Oversize before Twice", A, A, ROOM);
+}
+
+const THREE: u16 = 3 * ENTRY;
+
+// The same of three entries, in a book that fits.
+fn three_ases(label: &[u8], first: usize, second: usize, third: usize) {
+    let mut book = [0u8; ROOM];
+    let to_head = builder::put_sizes(&mut book, 0, sizes(0, 1, THREE as u32));
+    let to_first = builder::put_head(&mut book, to_head, head(3, THREE));
+    let to_second = builder::put_entry(&mut book, to_first, entry(first, 0));
+    let to_third = builder::put_entry(&mut book, to_second, entry(second, 0));
+    builder::put_entry(&mut book, to_third, entry(third, 0));
+    say(label);
+    answer(&book, PAIR + AsEntry::SIZE);
+}
+
+// Their last bytes are equal.
+fn last_bytes() {
+    let b = 0x0001_ff00_0000_0210;
+    let c = 0x0002_ff00_0000_0110;
+    three_ases(b"three ASes", A, b, c);
+    three_ases(b"the third is the first", A, b, A);
+    three_ases(b"the third is the second", A, c, c);
+    three_ases(b"the second is the first", A, A, b);
+}
+
+// A core and a non-core segment of three entries together, all of one AS: their heads, and the peers of the entries. B and the book's
+// length fit.
+fn three(core: Head, other: Head, first: u8, second: u8, third: u8) {
+    let mut book = [0u8; ROOM];
+    let to_core = builder::put_sizes(&mut book, 0, sizes(1, 1, THREE as u32));
+    let to_other = builder::put_head(&mut book, to_core, core);
+    let to_first = builder::put_head(&mut book, to_other, other);
+    let to_second = builder::put_entry(&mut book, to_first, entry(0, first));
+    let to_third = builder::put_entry(&mut book, to_second, entry(0, second));
+    builder::put_entry(&mut book, to_third, entry(0, third));
+    answer(&book, PAIR + AsEntry::SIZE + Head::SIZE);
+}
+
+fn other_bodies() {
+    say(b"Twice of the first body");
+    three(head(2, TWO), head(1, ENTRY), 0, 0, 0);
+    say(b"Twice of the second body");
+    three(head(1, ENTRY), head(2, TWO), 0, 0, 0);
+    say(b"Twice of the first body before Peers of the second");
+    three(head(2, TWO), head(1, ENTRY), 0, 0, PEERS + 1);
+    say(b"Twice of the first body before Misfit of the second");
+    three(head(2, TWO), head(2, ENTRY), 0, 0, 0);
+    say(b"Peers of the first body before Twice of the second");
+    three(head(1, ENTRY), head(2, TWO), PEERS + 1, 0, 0);
+    say(b"Misfit of the first body before Twice of the second");
+    three(head(0, ENTRY), head(2, TWO), 0, 0, 0);
+    say(b"Long of the last head before Twice of the first body");
+    three(head(2, TWO), head(ENTRIES + 1, ENTRY), 0, 0, 0);
+    say(b"Misfit of the sum before Twice");
+    three(head(2, TWO), head(1, ENTRY - 1), 0, 0, 0);
+}
+
+fn same_body() {
+    say(b"3 entries of one AS");
+    three(head(3, THREE), head(0, 0), 0, 0, 0);
+    say(b"Peers of a later entry before Twice");
+    three(head(3, THREE), head(0, 0), 0, 0, PEERS + 1);
+    say(b"Misfit of a later entry before Twice");
+    three(head(3, THREE - 1), head(0, 1), 0, 0, 0);
+    say(b"Misfit of a later entry's peer before Twice");
+    three(head(3, THREE), head(0, 0), 0, 0, 1);
+    say(b"Misfit of the bytes after them before Twice");
+    three(head(2, THREE), head(0, 0), 0, 0, 0);
+}
+
 // ---- the longest book
 
 fn heads(book: &mut [u8], at: usize, count: usize, h: Head) -> usize {
@@ -237,7 +377,7 @@ fn heads(book: &mut [u8], at: usize, count: usize, h: Head) -> usize {
 fn entries(book: &mut [u8], at: usize, count: usize, peers: u8) -> usize {
     let mut next = at;
     for _ in 0..count {
-        next = builder::put_entry(book, next, entry(peers));
+        next = builder::put_entry(book, next, entry(next, peers));
         for _ in 0..peers {
             next = builder::put_peer(book, next, PeerEntry::new(IsdAsn(0), 0, 0, hop()));
         }
@@ -256,10 +396,18 @@ fn longest(book: &mut [u8]) {
     entries(book, to_small, 14, 1);
 }
 
+// The last segment's first entry, and its last.
+const SMALL: usize = Limits::BOOK - 14 * (AsEntry::SIZE + PeerEntry::SIZE);
+
+const LAST: usize = Limits::BOOK - (AsEntry::SIZE + PeerEntry::SIZE);
+
 fn large() {
     let mut book = [0u8; ROOM];
     longest(&mut book);
     say(b"61440 bytes");
+    answer(&book, Limits::BOOK);
+    builder::put_entry(&mut book, LAST, entry(SMALL, 1));
+    say(b"61440 bytes, Twice of the last entry");
     answer(&book, Limits::BOOK);
     say(b"61440 bytes, one taken off");
     answer(&book, Limits::BOOK - 1);
@@ -278,5 +426,10 @@ fn main() {
     lengths_first();
     heads_first();
     bodies_by_position();
+    twice();
+    numbers();
+    last_bytes();
+    other_bodies();
+    same_body();
     large();
 }

@@ -1,16 +1,16 @@
 //! The writer of books.
 
 use combinator::{
-    list, AsEntry, BookWriter, IsdAsn, PeerEntry, Refusal, LIST_SIZE, MAX_BOOK, MAX_ENTRIES,
-    MAX_PEERS, MAX_SEGMENTS,
+    assemble, list, routes, AsEntry, BookWriter, IsdAsn, PeerEntry, Refusal, Solution, LIST_SIZE,
+    MAX_BOOK, MAX_ENTRIES, MAX_PEERS, MAX_SEGMENTS,
 };
 
-use crate::common::{decode, worked, Entries, Given};
+use crate::common::{decode, worked, Entries, Given, AS_SIZE};
 
-/// A segment of so many entries with so many peers each, which all hold its id.
+/// A segment of so many entries with so many peers each, which all hold its id: the entries in their ISD.
 fn segment(id: u16, entries: usize, peers: usize) -> Given {
-    let entry = AsEntry {
-        local: IsdAsn(id.into()),
+    let entry = |place: usize| AsEntry {
+        local: IsdAsn(u64::from(id) << 48 | place as u64),
         ..AsEntry::default()
     };
     let peer = PeerEntry {
@@ -20,8 +20,19 @@ fn segment(id: u16, entries: usize, peers: usize) -> Given {
     Given {
         timestamp: 1,
         id,
-        entries: vec![(entry, vec![peer; peers]); entries],
+        entries: (0..entries)
+            .map(|place| (entry(place), vec![peer; peers]))
+            .collect(),
     }
+}
+
+/// A segment whose entries, without peers, are of these ASes.
+fn over(id: u16, ases: &[u64]) -> Given {
+    let mut made = segment(id, ases.len(), 0);
+    for ((entry, _), isd_as) in made.entries.iter_mut().zip(ases) {
+        entry.local = IsdAsn(*isd_as);
+    }
+    made
 }
 
 fn core(book: &mut BookWriter, s: &Given) -> Result<(), Refusal> {
@@ -74,6 +85,110 @@ fn refused_segments() {
     let book = book.finish();
     assert_eq!(decode(book), [vec![second], vec![first]]);
     assert!(list(IsdAsn(1), IsdAsn(9), book, &mut [0; LIST_SIZE]).is_ok());
+}
+
+/// The bytes of a book of non-cores as they are, whether it is accepted or not.
+fn unchecked(segments: &[Given]) -> Vec<u8> {
+    let bodies: Vec<Vec<u8>> = segments.iter().map(body).collect();
+    let total: usize = bodies.iter().map(Vec::len).sum();
+    let mut book = [0, segments.len() as u16].map(u16::to_be_bytes).concat();
+    book.extend((total as u32).to_be_bytes());
+    for (s, body) in segments.iter().zip(&bodies) {
+        book.extend(s.timestamp.to_be_bytes());
+        let rest = [s.id, s.entries.len() as u16, body.len() as u16];
+        book.extend(rest.map(u16::to_be_bytes).concat());
+    }
+    book.extend(bodies.concat());
+    book
+}
+
+/// Entries with their ASes, all else zero.
+fn body(s: &Given) -> Vec<u8> {
+    let mut bytes = Vec::new();
+    for (entry, peers) in &s.entries {
+        assert!(peers.is_empty());
+        bytes.extend(entry.local.0.to_be_bytes());
+        bytes.resize(bytes.len() + AsEntry::SIZE - AS_SIZE, 0);
+    }
+    bytes
+}
+
+/// A segment that passes an AS twice is refused by the writer and, where others wrote it, by every call.
+#[test]
+fn twice() {
+    let (a, b, c) = (0x0001_ff00_0000_0110, 0x0001_ff00_0000_0111, 9);
+    let other_isd = 0x0002_ff00_0000_0110;
+    let whole: Vec<u64> = (1..=MAX_ENTRIES as u64).collect();
+    let mut last_again = whole.clone();
+    last_again[MAX_ENTRIES - 1] = last_again[0];
+    for ases in [
+        &[a, a][..],
+        &[a, b, a],
+        &[c, a, a],
+        &[c, a, b, a],
+        &[a, b, a, c],
+        &[0, 0],
+        &last_again,
+    ] {
+        let (fits, repeats) = (over(1, &[a, b]), over(2, ases));
+        let mut room = vec![0xa5; MAX_BOOK];
+        let mut book = BookWriter::new(&mut room).unwrap();
+        assert_eq!(core(&mut book, &repeats), Err(Refusal::Twice), "{ases:x?}");
+        assert_eq!(non_core(&mut book, &fits), Ok(()));
+        assert_eq!(non_core(&mut book, &repeats), Err(Refusal::Twice));
+        let mut out = Vec::new();
+        book.cores([&repeats, &fits], |s, refusal| out.push((s.id, refusal)));
+        book.non_cores([&repeats], |s, refusal| out.push((s.id, refusal)));
+        assert_eq!(out, [(2, Refusal::Twice), (2, Refusal::Twice)]);
+        assert_eq!(
+            decode(book.finish()),
+            [vec![fits.clone()], vec![fits.clone()]]
+        );
+
+        let book = unchecked(&[fits, repeats]);
+        let mut slots = [0xa5; 4 * Solution::SIZE];
+        let (src, dst) = (IsdAsn(a), IsdAsn(b));
+        assert_eq!(list(src, dst, &book, &mut slots), Err(Refusal::Twice));
+        assert!(slots.iter().all(|byte| *byte == 0));
+        assert_eq!(routes(src, dst, &book, &mut slots), Err(Refusal::Twice));
+        let answer = assemble(src, dst, &book, [], &mut slots);
+        assert_eq!(answer, Err(Refusal::Twice));
+    }
+    // The same AS in another ISD or in another segment is none of it; nor is a segment that is there twice.
+    for ases in [&[a, other_isd][..], &[a, b], &[b], &whole] {
+        let segments = [over(1, &[a, b]), over(2, ases), over(2, ases)];
+        let mut room = vec![0xa5; MAX_BOOK];
+        let mut book = BookWriter::new(&mut room).unwrap();
+        book.non_cores(&segments, |s, refusal| panic!("{refusal}: {s:?}"));
+        let book = book.finish();
+        assert_eq!(book, unchecked(&segments));
+        let mut slots = [0; 4 * Solution::SIZE];
+        assert!(list(IsdAsn(a), IsdAsn(b), book, &mut slots).is_ok());
+    }
+}
+
+/// Of the refusals of one segment, the one that the library tests first.
+#[test]
+fn before_twice() {
+    let mut peers = segment(1, 2, MAX_PEERS + 1);
+    peers.entries[0].1.clear();
+    peers.entries[1].0.local = peers.entries[0].0.local;
+    let long = over(2, &[7; MAX_ENTRIES + 1]);
+    let twice = over(3, &[7, 7]);
+    let mut room = vec![0; empty(1) + 2 * AsEntry::SIZE];
+    let mut book = BookWriter::new(&mut room).unwrap();
+    assert_eq!(core(&mut book, &twice), Err(Refusal::Twice));
+    let mut short = vec![0; empty(1) + 2 * AsEntry::SIZE - 1];
+    let mut book = BookWriter::new(&mut short).unwrap();
+    assert_eq!(core(&mut book, &twice), Err(Refusal::Oversize));
+    let mut room = vec![0; MAX_BOOK];
+    let mut book = BookWriter::new(&mut room).unwrap();
+    assert_eq!(core(&mut book, &peers), Err(Refusal::Peers));
+    assert_eq!(non_core(&mut book, &long), Err(Refusal::Long));
+    for _ in 0..MAX_SEGMENTS {
+        assert_eq!(core(&mut book, &segment(2, 0, 0)), Ok(()));
+    }
+    assert_eq!(non_core(&mut book, &twice), Err(Refusal::Crowded));
 }
 
 /// Calls of both kinds in every order make one book.

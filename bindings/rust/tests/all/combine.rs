@@ -125,6 +125,12 @@ fn refused() {
     long.entries = vec![fits.entries[0].clone(); MAX_ENTRIES + 1];
     let refused = combine(SRC, DST, &[], [&fits, &long]);
     assert_eq!(refused, Err(Refusal::Long));
+    let mut twice = fits.clone();
+    twice.entries.push(fits.entries[0].clone());
+    let refused = combine(SRC, DST, [&twice], [&fits]);
+    assert_eq!(refused, Err(Refusal::Twice));
+    let refused = combine_routes(SRC, DST, &[], [&fits, &twice]);
+    assert_eq!(refused, Err(Refusal::Twice));
     let crowd = vec![fits.clone(); MAX_SEGMENTS];
     let refused = combine(SRC, DST, [&fits], &crowd);
     assert_eq!(refused, Err(Refusal::Crowded));
@@ -133,8 +139,9 @@ fn refused() {
     let mut room = vec![0; MAX_BOOK];
     let mut book = BookWriter::new(&mut room).unwrap();
     let mut out = Vec::new();
-    book.non_cores([&long, &fits], |s, refusal| out.push((s.id, refusal)));
-    assert_eq!(out, [(1, Refusal::Long)]);
+    let given = [&long, &twice, &fits];
+    book.non_cores(given, |s, refusal| out.push((s.id, refusal)));
+    assert_eq!(out, [(1, Refusal::Long), (1, Refusal::Twice)]);
     let got = paths(SRC, DST, book.finish());
     assert_eq!(got.map(|p| p.len()), Ok(1));
     assert_eq!(paths(SRC, DST, &[]), Err(Refusal::Cut));

@@ -16,6 +16,8 @@ fn numbers_and_words() {
         );
     }
     assert_eq!(Refusal::from_number(0), None);
+    assert_eq!(Refusal::from_number(11), Some(Refusal::Twice));
+    assert_eq!(Refusal::from_number(12), None);
 }
 
 /// Refusals and text errors serve where errors are boxed.
@@ -25,6 +27,10 @@ fn errors() {
     assert_eq!(
         refusal.to_string(),
         "refused 8 Full: there are more solutions than slots"
+    );
+    assert_eq!(
+        Refusal::Twice.to_string(),
+        "refused 11 Twice: an entry's AS stands earlier in the same segment"
     );
     let text: Box<dyn std::error::Error> = combinator::ParseError.into();
     assert_eq!(

@@ -1,13 +1,16 @@
 -- `fill_rows` meets its contract. The loop's invariant: what is left says what the whole says, the rows before k are stored, and `at` is where the next body starts.
 -- Assumes nothing.
-use mathlib.Core.Path.{_≡_, refl, sym, _∙_}
+use mathlib.Core.Path.{_≡_, refl, sym, ap, _∙_}
+use mathlib.Core.Bool.{true}
 use Prim.Native.Nat.{_+_, _*_, _-_, _^_, _≤_, _<_}
 use native.Mathlib.Omega.{arith}
+use lib.ListN.{length}
 use Rattle.spec.specs.Book.{segmentCount, bodyOffset, bodiesVerdict}
 use Rattle.segment.proofs.Positions.{body-next}
 use Rattle.book.specs.Offsets.{rowsBelow}
-use Rattle.book.proofs.Tables.{rows-step, rows-all}
-use Rattle.book.proofs.Turns.{heads-inside, body-says, bodies-first, bodies-refused, bodies-next, bodies-done, body-fits, not-accepted}
+use Rattle.book.proofs.Tables.{rows-step, rows-all, rows-length}
+use Rattle.book.proofs.Turns.{heads-inside, bodies-first, bodies-refused, bodies-next, bodies-done, body-fits, not-accepted}
+use Rattle.book.proofs.Repeating.{row-within, row-twice, body-refused, body-told}
 use borrow.Author.Needs.{needs}
 use Rattle.book.proofs.offsets.fill_rows.Statement.{statement}
 use Rattle.book.proofs.offsets.fill_rows.Tie as tie
@@ -33,29 +36,53 @@ fill-row-requires c κs = (body-fits _ (c .before .before .before .before .befor
 
 returns : tie.Need-returns Inv-loop μ-loop
 returns c =
-    let l = c .before .before .before .before .before .before .before .before .before .before in
+    let l = c .before .before .before .before .before .before .before .before .before .before .loop .inv in
     let e = c .enum-told .given .1 in
-    let says = body-says _ 0 _ (l .loop .inv .2) (c .before .before .before .before .before .before .before .wide .ensures .0 ∙ c .before .before .before .before .before .before .before .before .length-within .ensures) (c .before .before .before .before .before .wide2 .ensures .0 ∙ c .before .before .before .before .before .before .count-within .ensures) (c .before .before .fill-row .ensures .0) in
-    (sym (l .loop .inv .4 ∙ bodies-refused _ _ _ _ (c .before .before .before .before .before .before .before .before .before .loop-test .taken) (says ∙ e) ∙ sym e), λ q. not-accepted (sym e ∙ q))
+    let says = body-refused _ _ (l .2) (c .before .before .before .before .before .before .before .wide .ensures .0 ∙ c .before .before .before .before .before .before .before .before .length-within .ensures) (c .before .before .before .before .before .wide2 .ensures .0 ∙ c .before .before .before .before .before .before .count-within .ensures) (c .before .before .fill-row .ensures .0) e in
+    (sym (l .4 ∙ bodies-refused _ _ _ _ (c .before .before .before .before .before .before .before .before .before .loop-test .taken) says ∙ sym e), λ q. not-accepted (sym e ∙ q))
 
-loop-again : tie.Need-loop-again Inv-loop μ-loop
-loop-again c =
-    let l = c .before .before .before .before .before .before .before .before .before .before in
-    let size = c .before .before .before .before .before .before .before .wide .ensures .0 ∙ c .before .before .before .before .before .before .before .before .length-within .ensures in
-    let count = c .before .before .before .before .before .wide2 .ensures .0 ∙ c .before .before .before .before .before .before .count-within .ensures in
-    let e = c .enum-told2 .given .1 in
-    let says = body-says _ 0 _ (l .loop .inv .2) size count (c .before .before .fill-row .ensures .0) in (
-      omega arith,
-      omega arith,
-      body-next _ _ (l .loop .inv .2) size,
-      rows-step _ _ refl (l .loop .inv .2) count (l .loop .inv .3) (c .before .before .fill-row .ensures .1 e),
-      l .loop .inv .4 ∙ bodies-next _ _ _ (c .before .before .before .before .before .before .before .before .before .loop-test .taken) (says ∙ e),
-    )
+passes-twice-requires : tie.Need-passes-twice-requires Inv-loop μ-loop
+passes-twice-requires c κs =
+    let l = c .before .before .before .before .before .before .before .before .before .before .before .loop .inv in
+    let size = c .before .before .before .before .before .before .before .before .wide .ensures .0 ∙ c .before .before .before .before .before .before .before .before .before .length-within .ensures in
+    let count = c .before .before .before .before .before .before .wide2 .ensures .0 ∙ c .before .before .before .before .before .before .before .count-within .ensures in
+    let e = c .before .enum-told2 .given .1 in
+    let z = body-fits _ (c .before .before .before .before .before .before .before .before .before .before .before .before .before .before .before .before .pre .0) _ (rw (c .before .before .before .before .before .before .before .before .before .before .before .before .before .before .segment-count .ensures .0) at (c .before .before .before .before .before .before .before .before .before .before .loop-test .taken)) (l .2) size count in
+    row-within _ z (sym (c .before .before .before .fill-row .ensures .0) ∙ e) _ (ap length (l .3) ∙ rows-length _ _) (c .before .before .before .fill-row .ensures .1 e)
 
 returns-2 : tie.Need-returns-2 Inv-loop μ-loop
 returns-2 c =
-    let l = c .before in
-    (sym (l .loop .inv .4 ∙ bodies-done _ _ _ (c .loop-test .left)), λ q. rows-all _ (l .loop .inv .3) (omega (arith, c .before .before .before .before .segment-count .ensures .0)))
+    let l = c .before .before .before .before .before .before .before .before .before .before .before .before .before .loop .inv in
+    let size = c .before .before .before .before .before .before .before .before .before .before .wide .ensures .0 ∙ c .before .before .before .before .before .before .before .before .before .before .before .length-within .ensures in
+    let count = c .before .before .before .before .before .before .before .before .wide2 .ensures .0 ∙ c .before .before .before .before .before .before .before .before .before .count-within .ensures in
+    let e = c .before .before .before .enum-told2 .given .1 in
+    let z = body-fits _ (c .before .before .before .before .before .before .before .before .before .before .before .before .before .before .before .before .before .before .pre .0) _ (rw (c .before .before .before .before .before .before .before .before .before .before .before .before .before .before .before .before .segment-count .ensures .0) at (c .before .before .before .before .before .before .before .before .before .before .before .before .loop-test .taken)) (l .2) size count in
+    let fits = sym (c .before .before .before .before .before .fill-row .ensures .0) ∙ e in
+    let same = row-twice _ z fits _ (ap length (l .3) ∙ rows-length _ _) (c .before .before .before .before .before .fill-row .ensures .1 e) in
+    let says = body-told _ _ (l .2) size count fits (sym (c .if1 .taken) ∙ c .before .passes-twice .ensures ∙ same) in
+    (sym (l .4 ∙ bodies-refused _ _ _ _ (c .before .before .before .before .before .before .before .before .before .before .before .before .loop-test .taken) says), not-accepted)
+
+loop-again : tie.Need-loop-again Inv-loop μ-loop
+loop-again c =
+    let l = c .before .before .before .before .before .before .before .before .before .before .before .before .before .loop .inv in
+    let size = c .before .before .before .before .before .before .before .before .before .before .wide .ensures .0 ∙ c .before .before .before .before .before .before .before .before .before .before .before .length-within .ensures in
+    let count = c .before .before .before .before .before .before .before .before .wide2 .ensures .0 ∙ c .before .before .before .before .before .before .before .before .before .count-within .ensures in
+    let e = c .before .before .before .enum-told2 .given .1 in
+    let z = body-fits _ (c .before .before .before .before .before .before .before .before .before .before .before .before .before .before .before .before .before .before .pre .0) _ (rw (c .before .before .before .before .before .before .before .before .before .before .before .before .before .before .before .before .segment-count .ensures .0) at (c .before .before .before .before .before .before .before .before .before .before .before .before .loop-test .taken)) (l .2) size count in
+    let fits = sym (c .before .before .before .before .before .fill-row .ensures .0) ∙ e in
+    let same = row-twice _ z fits _ (ap length (l .3) ∙ rows-length _ _) (c .before .before .before .before .before .fill-row .ensures .1 e) in
+    let says = body-told _ _ (l .2) size count fits (sym (c .if1 .left) ∙ c .before .passes-twice .ensures ∙ same) in (
+      omega arith,
+      omega arith,
+      body-next _ _ (l .2) size,
+      rows-step _ _ refl (l .2) count (l .3) (c .before .before .before .before .before .fill-row .ensures .1 e),
+      l .4 ∙ bodies-next _ _ _ (c .before .before .before .before .before .before .before .before .before .before .before .before .loop-test .taken) says,
+    )
+
+returns-3 : tie.Need-returns-3 Inv-loop μ-loop
+returns-3 c =
+    let l = c .before .loop .inv in
+    (sym (l .4 ∙ bodies-done _ _ _ (c .loop-test .left)), λ q. rows-all _ (l .3) (omega (arith, c .before .before .before .before .segment-count .ensures .0)))
 
 pub fill-rows-spec : {M : Type 1} → statement M
 fill-rows-spec =
@@ -81,5 +108,9 @@ fill-rows-spec =
     (λ c. search needs)
     (λ c. search needs)
     (λ c. search needs)
+    passes-twice-requires
+    returns-2
+    (λ c. search needs)
+    (λ c. search needs)
     loop-again
-    returns-2)
+    returns-3)

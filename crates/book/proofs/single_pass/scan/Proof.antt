@@ -1,18 +1,19 @@
 -- `scan` meets its contract. The loop's invariant: what is left says what the whole says, of heads and of bodies, the rows before k are stored, and `at`, `head` and `row` are where the next body, head and row start.
 -- Assumes nothing.
-use mathlib.Core.Path.{_≡_, refl, _∙_}
+use mathlib.Core.Path.{_≡_, refl, ap, _∙_}
 use Prim.Native.Nat.{_+_, _*_, _-_, _≤_}
 use native.Mathlib.Omega.{arith}
 use lib.ListN.{length}
-use borrow.Author.Tests.{eqb-true}
+use borrow.Author.Tests.{eqb-true, not-false}
 use Rattle.spec.specs.Limits.{sizesSize, headSize, maxEntries}
 use Rattle.spec.specs.Basics.{any, range}
 use Rattle.spec.specs.Book.{segmentCount, bodyOffset, bodiesVerdict, isLong, tooLong}
 use Rattle.spec.proofs.Membership.{not-both}
 use Rattle.segment.proofs.Positions.{body-next, any-next}
 use Rattle.book.specs.Offsets.{rowsBelow}
-use Rattle.book.proofs.Tables.{rows-step, rows-all}
-use Rattle.book.proofs.Turns.{long-all, not-long, body-says, bodies-first, bodies-next, head-count, head-length, front-starts, front-heads, front-body, passed-book}
+use Rattle.book.proofs.Tables.{rows-step, rows-all, rows-length}
+use Rattle.book.proofs.Turns.{long-all, not-long, bodies-first, bodies-next, head-count, head-length, front-starts, front-heads, front-body, passed-book}
+use Rattle.book.proofs.Passing.{row-says}
 use borrow.Author.Needs.{needs}
 use Rattle.book.proofs.single_pass.scan.Statement.{statement}
 use Rattle.book.proofs.single_pass.scan.Tie as tie
@@ -47,34 +48,35 @@ pair-requires-2 c κs = omega (arith, front-heads _ (c .before .before .before .
 returns-2 : tie.Need-returns-2 Inv-loop μ-loop
 returns-2 c = λ q. not-both q refl
 
-fill-row-requires : tie.Need-fill-row-requires Inv-loop μ-loop
-fill-row-requires c κs = (front-body _ (c .before .before .before .before .before .before .before .before .before .before .before .before .pre .0) _ (c .before .before .before .before .before .before .before .before .loop-test .taken) (c .before .before .before .before .before .before .before .before .before .loop .inv .7) (c .before .before .before .before .before .if1 .left) (omega arith) (c .before .before .if2 .left), c .before .before .before .before .before .before .before .before .before .before .entry-sizes .ensures)
+row-passes-requires : tie.Need-row-passes-requires Inv-loop μ-loop
+row-passes-requires c κs =
+    let l = c .before .before .before .before .before .before .before .before .before .loop .inv in
+    (front-body _ (c .before .before .before .before .before .before .before .before .before .before .before .before .pre .0) _ (c .before .before .before .before .before .before .before .before .loop-test .taken) (l .7) (c .before .before .before .before .before .if1 .left) (omega arith) (c .before .before .if2 .left), (c .before .before .before .before .before .before .before .before .before .before .entry-sizes .ensures, ap length (l .3) ∙ rows-length _ _))
 
 returns-3 : tie.Need-returns-3 Inv-loop μ-loop
 returns-3 c = λ q. not-both q refl
 
 add-head : tie.Need-add-head Inv-loop μ-loop
-add-head c = omega (arith, c .before .before .before .before .before .before .before .before .before .before .before .before .loop .inv .6)
+add-head c = omega (arith, c .before .before .before .before .before .before .before .before .before .before .before .loop .inv .6)
 
 add-row : tie.Need-add-row Inv-loop μ-loop
-add-row c = omega (arith, c .before .before .before .before .before .before .before .before .before .before .before .before .loop .inv .7)
+add-row c = omega (arith, c .before .before .before .before .before .before .before .before .before .before .before .loop .inv .7)
 
 loop-again : tie.Need-loop-again Inv-loop μ-loop
 loop-again c =
-    let l = c .before .before .before .before .before .before .before .before .before .before .before .before in
-    let test = c .before .before .before .before .before .before .before .before .before .before .before .loop-test .taken in
-    let count = c .before .before .before .before .before .before .before .before .before .wide .ensures .0 ∙ head-count _ _ (l .loop .inv .6) (c .before .before .before .before .before .before .before .before .before .before .pair .ensures) in
-    let size = c .before .before .before .before .before .before .wide2 .ensures .0 ∙ head-length _ _ (l .loop .inv .6) (c .before .before .before .before .before .before .before .pair2 .ensures) in
-    let e = c .enum-told2 .given .1 in
-    let says = body-says _ 0 _ (l .loop .inv .2) size count (c .before .before .fill-row .ensures .0) in (
+    let l = c .before .before .before .before .before .before .before .before .before .before .before .loop .inv in
+    let test = c .before .before .before .before .before .before .before .before .before .before .loop-test .taken in
+    let count = c .before .before .before .before .before .before .before .before .wide .ensures .0 ∙ head-count _ _ (l .6) (c .before .before .before .before .before .before .before .before .before .pair .ensures) in
+    let size = c .before .before .before .before .before .wide2 .ensures .0 ∙ head-length _ _ (l .6) (c .before .before .before .before .before .before .pair2 .ensures) in
+    let passed = c .before .row-passes .ensures (not-false _ (c .if3 .left)) in (
       omega arith,
-      c .before .before .before .before .before .if2 .left,
-      body-next _ _ (l .loop .inv .2) size,
-      rows-step _ _ (l .loop .inv .7) (l .loop .inv .2) count (l .loop .inv .3) (c .before .before .fill-row .ensures .1 e),
-      l .loop .inv .4 ∙ any-next _ _ _ test (not-long _ _ count (c .before .before .before .before .before .before .before .before .if1 .left)),
-      l .loop .inv .5 ∙ bodies-next _ _ _ test (says ∙ e),
-      omega (arith, l .loop .inv .6),
-      omega (arith, l .loop .inv .7),
+      c .before .before .before .before .if2 .left,
+      body-next _ _ (l .2) size,
+      rows-step _ _ (l .7) (l .2) count (l .3) (passed .rows),
+      l .4 ∙ any-next _ _ _ test (not-long _ _ count (c .before .before .before .before .before .before .before .if1 .left)),
+      l .5 ∙ bodies-next _ _ _ test (row-says _ _ (l .2) size count passed),
+      omega (arith, l .6),
+      omega (arith, l .7),
     )
 
 returns-4 : tie.Need-returns-4 Inv-loop μ-loop
@@ -101,10 +103,8 @@ scan-spec =
     (λ c κs. search needs)
     (λ c. search needs)
     returns-2
-    fill-row-requires
-    (λ c. search needs)
+    row-passes-requires
     returns-3
-    (λ c. search needs)
     add-head
     add-row
     (λ c. search needs)

@@ -28,7 +28,7 @@ as-edge-requires c κs =
 peer-edge-requires : tie.Need-peer-edge-requires
 peer-edge-requires c κs =
     let p = c .before .before .before .before .before .before .before .before .pre in
-    (p .0, (p .1, (sym (c .before .before .before .is-core .ensures) ∙ c .before .before .if2 .left, (omega (arith, c .before .before .before .before .before .before .count-of .ensures .0), omega (arith, c .if3 .left)))))
+    (record { ready = p .0; below = p .1; count = c .before .before .before .before .before .before .count-of .ensures .0; some = omega arith }, (sym (c .before .before .before .is-core .ensures) ∙ c .before .before .if2 .left, (c .before .before .before .before .if1 .left, omega (arith, c .if3 .left))))
 
 pub stored-edge-spec : {M : Type 1} → statement M
 stored-edge-spec =

@@ -3,7 +3,7 @@
 use mathlib.Core.Path.{sym, ap, _∙_}
 use mathlib.Core.Bool.{_&&_}
 use borrow.Author.Tests.{not-true, not-false}
-use Rattle.spec.specs.Edges.{sameAs}
+use Rattle.spec.specs.Book.{sameAs}
 use borrow.Author.Needs.{needs}
 use Rattle.graph.proofs.edges.both_same.Statement.{statement}
 use Rattle.graph.proofs.edges.both_same.Tie as tie

@@ -1,6 +1,7 @@
 -- To the leaf from an AS or from the other side of a link, or from the leaf to an AS.
 -- Assumes nothing.
 use borrow.Author.Tests.{not-true, not-false}
+use Rattle.graph.proofs.OpenedReads.{ready-apart}
 use Rattle.graph.proofs.EdgeFoundLaws.{join-other, join-link, whole-at}
 use borrow.Author.Needs.{needs}
 use Rattle.graph.proofs.edges.edge_at_leaf.Statement.{statement}
@@ -21,7 +22,7 @@ returns-2 c = whole-at _ _ _ _ (c .before .before .v .given .1) (c .edge-between
 
 returns-3 : tie.Need-returns-3
 returns-3 c = let p = c .before .before .before .before .before .before .before .pre in
-    join-link _ (p .1 .0) (p .0 .count) _ _ _ (p .1 .1) _ (c .before .before .same-as .ensures) (c .before .before .before .before .v2 .given .1) (not-false _ (c .before .if1 .left)) (c .link-edge-found .ensures)
+    join-link _ (p .1 .0) (p .0 .count) _ _ _ (p .1 .1) _ (c .before .before .same-as .ensures) (c .before .before .before .before .v2 .given .1) (ready-apart _ _ (p .0 .ready) _ (p .0 .below)) (not-false _ (c .before .if1 .left)) (c .link-edge-found .ensures)
 
 pub edge-at-leaf-spec : {M : Type 1} → statement M
 edge-at-leaf-spec =

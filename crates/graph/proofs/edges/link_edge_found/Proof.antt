@@ -1,7 +1,6 @@
--- Found where an entry has the link.
+-- Found where the entry of the link's AS has a peer with the link.
 -- Assumes nothing.
 use native.Mathlib.Omega.{arith}
-use Rattle.graph.specs.Link.{endOf}
 use Rattle.graph.proofs.EdgeFoundLaws.{link-joined, link-none}
 use borrow.Author.Needs.{needs}
 use Rattle.graph.proofs.edges.link_edge_found.Statement.{statement}
@@ -10,12 +9,12 @@ use Rattle.graph.proofs.edges.link_edge_found.Tie as tie
 returns : tie.Need-returns
 returns c =
     let s = c .before .before .before .before in
-    λ v w p. link-none (s .args .book .now) (s .args .k) (s .pre .1) (s .pre .0 .count) (endOf (s .args .link)) (c .before .before .find-linked .ensures) _ (omega arith) (c .none-found .ensures) v w
+    λ v w p. link-none (s .args .book .now) (s .args .k) (s .pre .1) (s .pre .0 .count) (s .args .link) (c .before .before .find-as .ensures) _ (omega arith) (c .none-found .ensures) v w
 
 returns-2 : tie.Need-returns-2
 returns-2 c =
     let s = c .before .before .before .before in
-    link-joined (s .args .book .now) (s .args .k) (s .pre .1) (s .pre .0 .count) (endOf (s .args .link)) (c .before .before .find-linked .ensures) (omega arith) (c .find-peer .ensures)
+    link-joined (s .args .book .now) (s .args .k) (s .pre .1) (s .pre .0 .count) (s .args .link) (c .before .before .find-as .ensures) (omega arith) (c .find-peer .ensures)
 
 pub link-edge-found-spec : {M : Type 1} → statement M
 link-edge-found-spec =

@@ -2,7 +2,7 @@
 -- Assumes nothing.
 use Rattle.graph.specs.Lookup.{foundEdges}
 use Rattle.graph.proofs.OpenedReads.{leaf-read}
-use Rattle.graph.proofs.EdgeReads.{link-some, up-later, up-lower, peer-up-made}
+use Rattle.graph.proofs.EdgeReads.{link-some, up-later, peer-up-made}
 use borrow.Author.Needs.{needs}
 use Rattle.graph.proofs.edges.peer_up.Statement.{statement}
 use Rattle.graph.proofs.edges.peer_up.Tie as tie
@@ -12,29 +12,18 @@ sub-if1 c = link-some _ _ _ (c .before .before .before .pre .1 .1 .1) (c .before
 
 returns : tie.Need-returns
 unfolding foundEdges
-returns c =
-    let q = c .before in
-    up-later _ _ _ (q .before .before .before .pre .1 .1 .1) (q .before .link-at .ensures) (q .find-peer .ensures) (c .if1 .taken)
+returns c = up-later _ _ _ (c .before .before .before .before .pre .1 .1 .1) (c .before .before .link-at .ensures) (c .before .find-peer .ensures) (c .if1 .taken)
 
 returns-2 : tie.Need-returns-2
 unfolding foundEdges
 returns-2 c =
-    let q = c .before .before .before in
-    up-lower _ _ _ (q .before .before .before .pre .1 .1 .1) (q .before .link-at .ensures) (c .before .find-linked .ensures) (c .if2 .taken)
-
-returns-3 : tie.Need-returns-3
-unfolding foundEdges
-returns-3 c =
     let n = c .before .before .before .before in
-    let d = n .before in
-    let o = d .before .before in
-    let q = o .before in
-    let s = q .before .before .before in
-    let g = s .pre .1 .1 .1 in
-    peer-up-made (s .args .book .now) (s .args .k) (s .args .i) (s .args .p) g (n .count-of .ensures .0)
-    (leaf-read _ (n .count-of .ensures .0) (c .before .before .before .as-at .ensures)) (q .before .link-at .result)
-    (q .before .link-at .ensures) (q .find-peer .ensures) (link-some _ _ _ g (q .before .link-at .ensures) (q .find-peer .ensures)) (o .if1 .left)
-    (d .before .find-linked .ensures) (d .if2 .left) (c .is-core .ensures)
+    let q = n .before .before in
+    let l = q .before in
+    let s = l .before .before in
+    peer-up-made (s .args .book .now) (s .args .k) (s .args .i) (s .args .p) (n .count-of .ensures .0)
+    (leaf-read _ (n .count-of .ensures .0) (c .before .before .before .as-at .ensures)) (l .link-at .result) (l .link-at .ensures) (q .find-peer .ensures)
+    (link-some _ _ _ (s .pre .1 .1 .1) (l .link-at .ensures) (q .find-peer .ensures)) (c .before .before .before .before .before .if1 .left) (c .is-core .ensures)
 
 pub peer-up-spec : {M : Type 1} → statement M
 peer-up-spec =
@@ -45,10 +34,8 @@ peer-up-spec =
     sub-if1
     returns
     (λ c κs. search needs)
-    returns-2
-    (λ c κs. search needs)
     (λ c. search needs)
     (λ c κs. search needs)
     (λ c. search needs)
     (λ c κs. search needs)
-    returns-3)
+    returns-2)

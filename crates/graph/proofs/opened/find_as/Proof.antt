@@ -4,8 +4,7 @@ use Prim.Native.Nat.{_-_}
 use native.Mathlib.Omega.{arith}
 use borrow.Author.Needs.{needs}
 use Rattle.spec.specs.Book.{segmentAt}
-use Rattle.graph.specs.Leaving.{isEntryOf}
-use Rattle.graph.specs.Scan.{entryWith}
+use Rattle.graph.specs.Leaving.{isEntryOf, entryWith}
 use Rattle.graph.proofs.LookupScan.{Scanning, scan-start, scan-stop, scan-turn, scan-end}
 use Rattle.graph.proofs.OpenedReads.{entry-test}
 use Rattle.graph.proofs.opened.find_as.Statement.{statement}

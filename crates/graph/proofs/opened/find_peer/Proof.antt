@@ -5,8 +5,7 @@ use borrow.Author.Needs.{needs}
 use borrow.Author.Tests.{not-true, not-false}
 use mathlib.Core.Path.{sym, ap, _∙_}
 use Rattle.spec.specs.Book.{segmentAt, peerCount}
-use Rattle.graph.specs.Leaving.{peerCountOf, isLink}
-use Rattle.graph.specs.Scan.{peerLinked}
+use Rattle.graph.specs.Leaving.{peerCountOf, isLink, peerLinked}
 use Rattle.graph.specs.Link.{endOf}
 use Rattle.graph.proofs.LookupScan.{Sinking, sink-start, sink-stop, sink-turn, sink-end}
 use Rattle.graph.proofs.OpenedReads.{position-below, count-most, entry-within, peer-within, peers-read, here-test, peer-test, link-none}

@@ -1,7 +1,7 @@
 -- `same_as` meets its contract.
 -- Assumes nothing.
 use mathlib.Core.Path.{refl}
-use Rattle.spec.specs.Edges.{sameAs}
+use Rattle.spec.specs.Book.{sameAs}
 use Rattle.graph.proofs.vertices.same_as.Statement.{statement}
 use Rattle.graph.proofs.vertices.same_as.Tie as tie
 
