@@ -33,7 +33,7 @@ export LIB
 CFLAGS = -O2 -g
 STRICT = -std=c99 -D_GNU_SOURCE -Wall -Wextra -Wpedantic -Werror -Iinclude
 SANITIZE = -fsanitize=address,undefined -fno-sanitize-recover=all
-DRIVER = main batch replay fuzz bench scale stack build common model
+DRIVER = main batch replay fuzz fuzz_wire bench scale stack build common model
 
 PROGRAMS = target/bin/list $(wildcard tools/book)
 MODULES = $(wildcard tools/booktext/*.py)
@@ -108,7 +108,7 @@ build/plain/%.o: tests/driver/%.c $(wildcard tests/driver/*.h) include/combinato
 build/sanitized/%.o: tests/driver/%.c $(wildcard tests/driver/*.h) include/combinator.h
 	@mkdir -p $(@D)
 	$(CC) $(CFLAGS) $(STRICT) $(SANITIZE) -c $< -o $@
-build/libmodel.a: build/plain/model_list.o build/plain/model_routes.o build/plain/model_assemble.o
+build/libmodel.a: $(patsubst %,build/plain/model_%.o,list routes assemble write read)
 	ar rcs $@ $^
 FORCE:
 

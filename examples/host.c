@@ -1,5 +1,5 @@
 /* host.c - a C host of the combinator: writes a small book, lists its solutions, assembles the path
- * of each, and prints the list.
+ * of each, and prints the list, with the bytes of each path that routers take.
  *
  *     cc -Iinclude examples/host.c build/libcombinator.a -o host && ./host
  */
@@ -20,6 +20,7 @@ static uint8_t book[COMBINATOR_MAX_BOOK];
 static size_t book_len;
 static uint8_t list[COMBINATOR_LIST_SIZE];
 static uint8_t path[COMBINATOR_PATH_SIZE];
+static uint8_t wire[COMBINATOR_WIRE_SIZE];
 
 /* A book of one non-core segment; 0, or a refusal. */
 static uint32_t write_book(void)
@@ -63,6 +64,34 @@ static void print_path(void)
                combinator_number(id, COMBINATOR_INTERFACE_ID_SIZE));
 }
 
+/* A line of so many bytes; the place past them. */
+static const uint8_t *print_bytes(const char *name, const uint8_t *at, unsigned size)
+{
+    printf("%s ", name);
+    while (size-- > 0)
+        printf("%02x", (unsigned)*at++);
+    printf("\n");
+    return at;
+}
+
+/* The bytes that go into a packet's header; 0, or a refusal. */
+static uint32_t print_wire(void)
+{
+    uint32_t length = combinator_write(path, sizeof path, wire, sizeof wire);
+    const uint8_t *at = wire;
+    unsigned i;
+
+    if (COMBINATOR_IS_REFUSAL(length))
+        return length;
+    printf("wire %" PRIu32 "\n", length);
+    at = print_bytes("meta", at, COMBINATOR_WIRE_META_SIZE);
+    for (i = 0; i < path[COMBINATOR_PATH_INFO_COUNT]; i++)
+        at = print_bytes("info", at, COMBINATOR_WIRE_INFO_SIZE);
+    while (at < wire + length)
+        at = print_bytes("hop", at, COMBINATOR_WIRE_HOP_SIZE);
+    return 0;
+}
+
 int main(void)
 {
     uint32_t count, paths = 0, i;
@@ -86,14 +115,16 @@ int main(void)
         printf("%" PRIu32 " cost %" PRIu64 " segments %u", i + 1,
                combinator_number(record + COMBINATOR_RECORD_COST, 2),
                (unsigned)record[COMBINATOR_RECORD_EDGE_COUNT]);
-        if (answer == COMBINATOR_PATH)
+        if (answer == COMBINATOR_PATH) {
             print_path();
-        else if (answer == COMBINATOR_LOOP)
+            answer = print_wire();
+        } else if (answer == COMBINATOR_LOOP) {
             printf(" loop\n");
-        else if (answer == COMBINATOR_BARE)
+        } else if (answer == COMBINATOR_BARE) {
             printf(" bare\n");
-        else
-            return 2; /* not for a record just listed */
+        }
+        if (COMBINATOR_IS_REFUSAL(answer))
+            return 2; /* not for a record just listed, nor for its path */
     }
     return 0;
 }

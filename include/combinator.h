@@ -1,10 +1,12 @@
-/* combinator.h - SCION path combination: three functions over byte buffers.
+/* combinator.h - SCION path combination: five functions over byte buffers.
  *
  *     combinator_list       lists every way to join the segments of a book into a path from a
  *                           source to a destination: one record for each solution
  *     combinator_routes     lists each route once: of the solutions whose paths pass the same
  *                           interfaces, the record of the one that lives longest
  *     combinator_assemble   makes the path of one such record
+ *     combinator_write      writes such a path as the bytes that routers take
+ *     combinator_read       reads such bytes back into a path
  *
  * The library needs nothing but memcpy, memset and their like from the C library. It allocates
  * nothing, reads and writes nothing but the buffers passed to it, and every call ends.
@@ -17,8 +19,9 @@
  *
  * Below COMBINATOR_REFUSED a number is the answer itself: of combinator_list the count of
  * solutions, of combinator_routes the count of routes, both 0 to COMBINATOR_MAX_SOLUTIONS; of
- * combinator_assemble COMBINATOR_PATH, COMBINATOR_LOOP or COMBINATOR_BARE. COMBINATOR_REFUSED + N
- * is refusal N, a number that is no count: test an answer before it is used.
+ * combinator_assemble COMBINATOR_PATH, COMBINATOR_LOOP or COMBINATOR_BARE; of combinator_write and
+ * combinator_read a count of bytes. COMBINATOR_REFUSED + N is refusal N, a number that is no count:
+ * test an answer before it is used.
  *
  *     count = combinator_list(src, dst, book, book_len, list, sizeof list);
  *     if (COMBINATOR_IS_REFUSAL(count))
@@ -34,27 +37,29 @@
  *      6 Peers     an entry with more than COMBINATOR_MAX_PEERS peers
  *      7 Misfit    body lengths do not sum to the total, or a body is not filled exactly
  *      8 Full      (listing, also of routes) more solutions than slots
- *      9 Small     (assembly) the output is under COMBINATOR_PATH_SIZE bytes
+ *      9 Small     the output is too short: of assembly and the reader under COMBINATOR_PATH_SIZE
+ *                  bytes, of the writer under COMBINATOR_WIRE_SIZE
  *     10 Stranger  (assembly) the record is not COMBINATOR_RECORD_SIZE bytes, or is no solution of
  *                  this book, source and destination
  *     11 Twice     an entry whose AS, ISD and AS number, stands earlier in the same segment
+ *     12 Wire      (writer) the path has no form on the wire; (reader) no path has these bytes
  *
- * 1 to 7 and 11 are about the book alone, and every function answers them. Of several that hold, the
- * one tested first is answered: 3, 1 (the counts themselves), 4, 1, 2, 5 over all heads, 7 (the sum);
- * then body by body 6 and 7, and 11 of a body that has passed these, before the next body; then 8 in
- * listing, 9 and 10 in assembly. So combinator_routes refuses where combinator_list does, and with
- * the same number.
+ * 1 to 7 and 11 are about the book alone, and every function that takes one answers them. Of several
+ * that hold, the one tested first is answered: 3, 1 (the counts themselves), 4, 1, 2, 5 over all
+ * heads, 7 (the sum); then body by body 6 and 7, and 11 of a body that has passed these, before the
+ * next body; then 8 in listing, 9 and 10 in assembly. So combinator_routes refuses where
+ * combinator_list does, and with the same number. Writer and reader take no book: 9, then 12.
  *
  *
  * Buffers
  *
  * Every length is a count of bytes, and any length is allowed: what is too short or too long is
  * refused, not read past. Bytes need no alignment. A pointer is never NULL, also where its length
- * is 0. book, record and out do not overlap; book and record are only read.
+ * is 0. No buffer overlaps out; all but out are only read.
  *
- * After every call all out_len bytes of out are set, whatever they held before: first the records
- * or the path, then zeros to the end. After a refusal, COMBINATOR_LOOP or COMBINATOR_BARE they are
- * all zero. Zeroing takes time: an output no longer than needed is cheaper.
+ * After every call all out_len bytes of out are set, whatever they held before: first the records,
+ * the path or its bytes, then zeros to the end. After a refusal, COMBINATOR_LOOP or COMBINATOR_BARE
+ * they are all zero. Zeroing takes time: an output no longer than needed is cheaper.
  *
  *
  * Words
@@ -70,19 +75,23 @@
  *                first, the smaller fingerprint first; then by position. No two tie
  *     route      the list of a path's interfaces: their ASes and ids, in the order of travel. A
  *                carrier that reissues a segment gives a route once more, with another expiry
+ *     wire       the standard path of the SCION data plane: what stands in a packet's header, for
+ *                the routers
  *
  *
  * Time, threads and stack
  *
  * Every call ends after a number of steps that the limits of a book bind. The tests hold a listing,
- * of solutions or of routes, to COMBINATOR_LIST_NS and an assembly to COMBINATOR_ASSEMBLE_NS, of
- * the thread's own time; of the dearest books known the solutions took 1.6 ms and the routes 10 ms.
+ * of solutions or of routes, to COMBINATOR_LIST_NS and an assembly, a write and a read each to
+ * COMBINATOR_ASSEMBLE_NS, of the thread's own time; of the dearest books known the solutions took
+ * 1.6 ms and the routes 10 ms.
  *
  * There is no state: all functions may be called at the same time from any threads, each call with
  * an output of its own.
  *
  * A call needs at most COMBINATOR_STACK_SIZE bytes of stack: `driver stack` measured 76,859 for
- * combinator_list, 96,363 for combinator_routes and 3,594 for combinator_assemble.
+ * combinator_list, 96,363 for combinator_routes and 3,594 for combinator_assemble; for
+ * combinator_write and combinator_read at most 1,024, the least that it tells.
  *
  * The library has unwind tables: a debugger, or backtrace() in a signal handler, passes through it.
  */
@@ -225,11 +234,36 @@ extern "C" {
 #define COMBINATOR_INTERFACE_ID_SIZE 2
 #define COMBINATOR_INTERFACE_SIZE (COMBINATOR_AS_SIZE + COMBINATOR_INTERFACE_ID_SIZE)
 
-/* The longest path: the least output of combinator_assemble. */
+/* The longest path: the least output of combinator_assemble and of combinator_read. */
 #define COMBINATOR_PATH_SIZE                                                   \
     (COMBINATOR_PATH_HEAD_SIZE + COMBINATOR_MAX_EDGES * COMBINATOR_INFO_SIZE + \
      COMBINATOR_MAX_HOPS * COMBINATOR_HOP_SIZE +                               \
      COMBINATOR_MAX_INTERFACES * COMBINATOR_INTERFACE_SIZE)
+
+/* A path on the wire: the meta header; its infos; its hops; nothing after them.
+ *
+ * The meta header is one number, from its high end down: current info, 2 bits, and current hop, 6,
+ * both 0 as written; 6 reserved bits; then the hop counts of three segments, 6 bits each, those
+ * after the last info 0. Reserved bits and bytes are 0. */
+#define COMBINATOR_WIRE_META_SIZE 4
+
+#define COMBINATOR_WIRE_INFO_FLAGS 0     /* 1, COMBINATOR_CONSTRUCTION and COMBINATOR_PEERING */
+#define COMBINATOR_WIRE_INFO_RESERVED 1  /* 1 */
+#define COMBINATOR_WIRE_INFO_ID 2        /* 2, segment id */
+#define COMBINATOR_WIRE_INFO_TIMESTAMP 4 /* 4, seconds */
+#define COMBINATOR_WIRE_INFO_SIZE 8
+
+#define COMBINATOR_WIRE_HOP_FLAGS 0   /* 1, two router alerts, 0 as written */
+#define COMBINATOR_WIRE_HOP_UNITS 1   /* 1, expiry in units */
+#define COMBINATOR_WIRE_HOP_INGRESS 2 /* 2 */
+#define COMBINATOR_WIRE_HOP_EGRESS 4  /* 2 */
+#define COMBINATOR_WIRE_HOP_MAC 6     /* COMBINATOR_MAC_SIZE */
+#define COMBINATOR_WIRE_HOP_SIZE 12
+
+/* The longest path on the wire: the least output of combinator_write. */
+#define COMBINATOR_WIRE_SIZE                                                        \
+    (COMBINATOR_WIRE_META_SIZE + COMBINATOR_MAX_EDGES * COMBINATOR_WIRE_INFO_SIZE + \
+     COMBINATOR_MAX_HOPS * COMBINATOR_WIRE_HOP_SIZE)
 
 /* Flags of an info; the first is the direction of a record's edge too. */
 #define COMBINATOR_CONSTRUCTION 1 /* in construction direction */
@@ -255,11 +289,12 @@ extern "C" {
 #define COMBINATOR_SMALL (COMBINATOR_REFUSED + 9u)
 #define COMBINATOR_STRANGER (COMBINATOR_REFUSED + 10u)
 #define COMBINATOR_TWICE (COMBINATOR_REFUSED + 11u)
+#define COMBINATOR_WIRE (COMBINATOR_REFUSED + 12u)
 
 /* Is an answer a refusal, its number, and the last number. */
 #define COMBINATOR_IS_REFUSAL(answer) ((answer) >= COMBINATOR_REFUSED)
 #define COMBINATOR_REFUSAL(answer) ((answer) - COMBINATOR_REFUSED)
-#define COMBINATOR_LAST_REFUSAL COMBINATOR_REFUSAL(COMBINATOR_TWICE)
+#define COMBINATOR_LAST_REFUSAL COMBINATOR_REFUSAL(COMBINATOR_WIRE)
 
 /* ---- Functions */
 
@@ -312,6 +347,34 @@ uint32_t combinator_assemble(uint64_t src, uint64_t dst, const uint8_t *book, si
                              const uint8_t *record, size_t record_len, uint8_t *out,
                              size_t out_len)
     COMBINATOR_CALL COMBINATOR_READS(3, 4) COMBINATOR_READS(5, 6) COMBINATOR_WRITES(7, 8);
+
+/* Writes a path as the bytes that routers take: the standard path of the SCION data plane, with
+ * both current indexes 0.
+ *
+ * path: as combinator_assemble leaves it; path_len may go past its end. Only the counts, the infos
+ * and the hops are written; the interfaces must be there, and may be anything. A path that
+ * combinator_assemble left is never refused.
+ *
+ * out: at least COMBINATOR_WIRE_SIZE bytes.
+ *
+ * Returns the count of bytes written, or COMBINATOR_SMALL, then COMBINATOR_WIRE: no info or more
+ * than COMBINATOR_MAX_EDGES; flags of an info above 3; its hop count 0 or above
+ * COMBINATOR_MAX_ENTRIES; hop counts that do not sum to the path's; or fewer bytes than the three
+ * counts need, those of interfaces among them. */
+uint32_t combinator_write(const uint8_t *path, size_t path_len, uint8_t *out, size_t out_len)
+    COMBINATOR_CALL COMBINATOR_READS(1, 2) COMBINATOR_WRITES(3, 4);
+
+/* Reads the bytes of a path on the wire back into a path of which infos and hops alone are known:
+ * all else in it is 0, the count of interfaces too. Written again it gives the same bytes.
+ *
+ * wire: exactly the bytes of the path, as combinator_write leaves them.
+ *
+ * out: at least COMBINATOR_PATH_SIZE bytes.
+ *
+ * Returns the count of the path's bytes, or COMBINATOR_SMALL, then COMBINATOR_WIRE: bytes that
+ * combinator_write can not have written, whatever the path. */
+uint32_t combinator_read(const uint8_t *wire, size_t wire_len, uint8_t *out, size_t out_len)
+    COMBINATOR_CALL COMBINATOR_READS(1, 2) COMBINATOR_WRITES(3, 4);
 
 #ifdef __cplusplus
 }

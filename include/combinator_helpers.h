@@ -31,6 +31,7 @@ static inline const char *combinator_word(uint32_t answer)
     case COMBINATOR_SMALL: return "Small";
     case COMBINATOR_STRANGER: return "Stranger";
     case COMBINATOR_TWICE: return "Twice";
+    case COMBINATOR_WIRE: return "Wire";
     default: return "";
     }
 }

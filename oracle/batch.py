@@ -11,6 +11,10 @@ FRONT = 4       # bytes of the length before each case
 # The words of an edge in both texts; the fingerprint is cut.
 Edge = namedtuple("Edge", "position shortcut peer direction fingerprint")
 
+# What the Rust makes of bytes of the wire: how many are left over, the two current indexes, the three lengths, infos, hops, and what its encoder
+# gives of them: `same`, `other`, `refused`.
+View = namedtuple("View", "rest current lengths infos hops encoded")
+
 
 def edge(words):
     position, shortcut, peer, direction, fingerprint = words
@@ -74,12 +78,33 @@ def oracle_blocks(path):
                 cur["hops"].append((int(w[1]), int(w[2]), int(w[3]), w[4]))
             elif w[0] == "if":
                 cur["ifs"].append((w[1], int(w[2])))
+            elif w[0] == "wire":
+                cur["wire"] = w[1]
             elif w[0] in ("loop", "panic", "encode-refused", "other-panic"):
                 cur["verdict"] = w[0]
             else:
                 cur = dict(cost=int(w[2]), n=int(w[4]), edges=[], verdict=None, infos=[], hops=[], ifs=[])
                 sols.append(cur)
     yield sols
+
+
+def views(path):
+    """For each path on the wire its View, or None where the Rust refuses it."""
+    rest, numbers, infos, hops, encoded = None, [], [], [], None
+    with open(path) as f:
+        for line in f:
+            w = line.split()
+            if w[0] == "view":
+                rest, *numbers = map(int, w[1:])
+            elif w[0] == "info":
+                infos.append((int(w[1]), w[2], int(w[3])))
+            elif w[0] == "hop":
+                hops.append((*map(int, w[1:-1]), w[-1]))
+            elif w[0] == "encoded":
+                encoded = w[1]
+            elif w[0] == "---":
+                yield None if rest is None else View(rest, numbers[:2], numbers[2:], infos, hops, encoded)
+                rest, numbers, infos, hops, encoded = None, [], [], [], None
 
 
 def driver_blocks(path):

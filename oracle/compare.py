@@ -1,7 +1,7 @@
 #!/usr/bin/env python3
 """Compares the oracle's batch text with the driver's (README.md).
 
-    compare.py ORACLE.out DRIVER.out [--show K] [--refused]
+    compare.py ORACLE.out DRIVER.out [--show K] [--refused] [--wire]
 
 The Rust leaves ties open (equal cost, edge count and, edge by edge, peer, shortcut and fingerprint):
 each run of ties is compared as a multiset, and the driver's must go by position. Everything else is
@@ -11,6 +11,13 @@ are more solutions than slots, and only there. Books whose segments pass an AS t
 Rust: they are counted as `twice`, the books that it answers as `once`.
 
 With --refused the oracle was given such books too (--repeats): each must have solutions there, and be refused by the driver.
+
+Of every path the bytes that the driver writes must be those of the Rust's encoder; they are counted as `written`.
+
+With --wire both were given paths on the wire. The driver must read those that the Rust's view takes whole and its encoder gives back, if both
+current indexes are 0, no segment has more hops than a book's has entries, and no flag is set but those two of infos; infos and hops must be
+the same.
+It must refuse all others, which are counted by PARTS.
 
 Routes: the driver's must be those that the rule gives over the Rust's solutions, told apart by their
 lists of interfaces. Where the oracle printed what `combine` answers (--combine), that must be what the
@@ -27,7 +34,12 @@ import sys
 from collections import Counter
 from itertools import groupby
 
-from batch import Edge, driver_blocks, edge, layout, oracle_blocks, tie_key
+from batch import Edge, driver_blocks, edge, layout, oracle_blocks, tie_key, views
+
+# Why the reader refuses bytes of the wire, the first that holds. Of the first three the Rust takes none as a path that it could encode: fewer bytes
+# than the lengths say, more, and no path of its own: no hops, or a current index past them. Of `reserved` its encoder gives other bytes.
+# The last four it takes and gives back.
+PARTS = "short", "surplus", "unencoded", "reserved", "current", "long", "flags", "alerts"
 
 
 def path_words(s):
@@ -36,7 +48,7 @@ def path_words(s):
     for part in ("infos", "hops", "ifs"):
         for x in s[part]:
             w += x
-    return w
+    return w + ["wire", s["wire"]]
 
 
 def line(s):
@@ -49,6 +61,10 @@ def line(s):
     else:
         w.append({"panic": "bare"}.get(s["verdict"], s["verdict"]))
     return " ".join(map(str, w))
+
+
+def without_wire(l):
+    return l.partition(" wire ")[0]
 
 
 def driver_key(l):
@@ -195,7 +211,8 @@ def differs(a, b, count):
     count["solutions"] += len(la)
     count["paths"] += sum(s["verdict"] == "path" for s in a)
     if Counter(la) != Counter(b):
-        return "other solutions"
+        return "other bytes on the wire" if Counter(map(without_wire, la)) == Counter(map(without_wire, b)) else "other solutions"
+    count["written"] += sum(" wire " in l for l in b)
     if kb != sorted(kb):
         return "out of order"
     rb = runs(b, kb)
@@ -216,13 +233,46 @@ def only_refused(a, b, count):
     return None if b == [f"refused {layout.TWICE}", f"routes refused {layout.TWICE}"] else "not refused"
 
 
+def parting(view):
+    """Why the reader refuses what the Rust makes so of bytes of the wire; None where it takes them."""
+    if view is None:
+        return "short"
+    holds = {"surplus": view.rest, "unencoded": view.encoded == "refused", "reserved": view.encoded == "other", "current": any(view.current),
+             "long": max(view.lengths) > layout.MAX_ENTRIES, "flags": any(i[0] > layout.CONSTRUCTION + layout.PEERING for i in view.infos),
+             "alerts": any(h[0] for h in view.hops)}
+    return next((part for part in PARTS if holds.get(part)), None)
+
+
+def compare_wires(oracle, driver, show):
+    """The Rust's views against what the driver reads."""
+    count, wrong = Counter(), 0
+    with open(driver) as f:
+        for i, (view, said) in enumerate(zip(views(oracle), f, strict=True)):
+            part = parting(view)
+            count["wires"] += 1
+            count[part or "taken"] += 1
+            if part:
+                want = ["refused", layout.WIRE]
+            else:
+                want = ["path", *(x for info, hops in zip(view.infos, view.lengths) for x in (*info, hops)), *(x for h in view.hops for x in h[1:])]
+            if said.split() != list(map(str, want)):
+                wrong += 1
+                if wrong <= show:
+                    print(f"wire {i}: {part or 'taken'}\n  oracle: {' '.join(map(str, want))}\n  driver: {said.rstrip()}")
+    print(" ".join(f"{k} {count[k]}" for k in ("wires", "taken", *PARTS)), "differing", wrong)
+    return wrong
+
+
 def main():
     p = argparse.ArgumentParser()
     p.add_argument("oracle")
     p.add_argument("driver")
     p.add_argument("--show", type=int, default=5)
     p.add_argument("--refused", action="store_true")
+    p.add_argument("--wire", action="store_true")
     o = p.parse_args()
+    if o.wire:
+        sys.exit(1 if compare_wires(o.oracle, o.driver, o.show) else 0)
     count, wrong = Counter(), Counter()
     for i, (a, b) in enumerate(zip(oracle_blocks(o.oracle), driver_blocks(o.driver), strict=True)):
         count["cases"] += 1
@@ -238,7 +288,7 @@ def main():
                     print("  oracle:", l)
                 for l in (y - x):
                     print("  driver:", l)
-    counted = "cases", "once", "solutions", "paths", "refused", "twice", "full", "routes", "alike", "finer", "coarser", "panic"
+    counted = "cases", "once", "solutions", "paths", "written", "refused", "twice", "full", "routes", "alike", "finer", "coarser", "panic"
     print(" ".join(f"{k} {count[k]}" for k in counted), "differing", sum(wrong.values()), *(f"({k} {v})" for k, v in wrong.items()))
     sys.exit(1 if wrong else 0)
 

@@ -10,7 +10,7 @@ from functools import partial  # noqa: F401 (the functions made use it)
 
 sys.setrecursionlimit(100000)
 TOK = re.compile('\\s+|(?P<str>"(?:[^"\\\\]|\\\\.)*")|(?P<num>0x[0-9a-f_]+|\\d+)(?![\\w·])|(?P<proj>\\.(?:«\\w+»|\\w+))|(?P<op>[(){};,])|(?P<name>[^\\s(){};,"]+)')
-FILES = ['Limits', 'Basics', 'Octets', 'Book', 'Edges', 'Chains', 'Order', 'Assembly', 'Records', 'Router', 'Answers', 'Printed', 'Routes']
+FILES = ['Limits', 'Basics', 'Octets', 'Book', 'Edges', 'Chains', 'Order', 'Assembly', 'Records', 'Router', 'Answers', 'Printed', 'Routes', 'Wire']
 
 
 def toks(t):
@@ -34,7 +34,7 @@ RIGHT = {'||', '&&', 'thenBy', 'andThen', '++', '∷', '^'}
 KW = {'then', 'else', 'in', 'if', 'let', '=', ':'}
 NATIVE = {'getD': ('N_getD', 3), 'take': ('N_take', 2), 'drop': ('N_drop', 2), 'length': ('len', 1), 'replicate': ('N_rep', 2), 'map': ('N_map', 2), 'flatMap': ('N_flat', 2), 'reverse': ('N_rev', 1), 'ltb': ('N_ltb', 2), 'eqb': ('N_eqb', 2), 'not': ('N_not', 1), 'min': ('min', 2), 'compare': ('N_cmp', 2), 'bitXor': ('N_xor', 2), 'code': ('N_code', 1), 'suc': ('N_suc', 1)}
 CONST = {'true': 'True', 'false': 'False', '[]': '()', 'zero': '0', 'Ordering·lt': '-1', 'Ordering·eq': '0', 'Ordering·gt': '1', 'tt': 'None'}
-CONS = {'AS': 1, 'Peering': 4, 'Accepted': 0, 'Refused': 1, 'RefusedBook': 1, 'RefusedList': 1, 'RefusedPath': 1, 'Count': 1, 'Path': 0, 'Loop': 0, 'Bare': 0, **{r: 0 for r in 'Cut Surplus Oversize Crowded Long Peers Misfit Full Small Stranger Twice'.split()}}
+CONS = {'AS': 1, 'Peering': 4, 'Accepted': 0, 'Refused': 1, 'RefusedBook': 1, 'RefusedList': 1, 'RefusedPath': 1, 'Count': 1, 'Path': 0, 'Loop': 0, 'Bare': 0, **{r: 0 for r in 'Cut Surplus Oversize Crowded Long Peers Misfit Full Small Stranger Twice Wire'.split()}}
 
 
 def cname(c):
@@ -460,8 +460,19 @@ def answer(g, digest, w):
         return [x for b in w[1] for c in g['f_solutions'](digest, t(b), asn(w[2]), asn(w[3])) for p in [g['f_combinedPath'](t(b), c)] for x in (p['mtu'], p['expiry'])]
     if k == 'sketch':
         return [x for b in w[1] for c in g['f_solutions'](digest, t(b), asn(w[2]), asn(w[3])) for p in [g['f_combinedPath'](t(b), c)] for x in [y for i in p['infos'] for y in (i['construction'] + 2 * i['peering'], i['hops'], i['id'])] + [y for h in p['hops'] for y in (h['ingress'], h['egress'])] + [i['id'] for i in p['interfaces']]]
+    path = lambda: g['f_assembly'](t(w[1]), asn(w[2]), asn(w[3]), t(w[4]), g['f_pathSize']())['1']
+    number = lambda l: g['f_wireNumber'](l['0'])
     if k == 'hold':
-        return list(g['f_routerIds'](g['f_assembly'](t(w[1]), asn(w[2]), asn(w[3]), t(w[4]), 1538)['1']))
+        return list(g['f_routerIds'](path()))
+    if k in ('write', 'read', 'send'):
+        l = g['f_writing'](path(), g['f_wireSize']()) if k == 'send' else g['f_writing' if k == 'write' else 'f_reading'](t(w[1]), w[2])
+        return [number(l), *l['1']]
+    if k == 'writes':
+        return [number(g['f_writing'](t(x), g['f_wireSize']())) for x in w[1]]
+    if k == 'reads':
+        return [number(g['f_reading'](t(x), g['f_pathSize']())) for x in w[1]]
+    if k == 'carry':
+        return list(g['f_wireRouterIds'](t(w[1])))
     if k == 'room':
         return [g['f_slots'](w[1])]
     if k == 'live':

@@ -1,5 +1,5 @@
 #!/usr/bin/env python3
-"""A small model of listing, assembly, routes and the printed list, written from docs/SPECIFICATION.md alone.
+"""A small model of listing, assembly, routes, paths on the wire and the printed list, written from docs/SPECIFICATION.md alone.
 
 It shares no code with crates/, and with tools/ only the layout of the bytes: tests and examples use it to tell what the others should answer. Run
 as a program it stands in for `list`: source, destination and book on standard input, the printed list on standard output.
@@ -11,7 +11,8 @@ from collections import Counter, namedtuple
 
 sys.path.insert(0, os.path.join(os.path.dirname(os.path.abspath(__file__)), "..", "tools"))
 from booktext import layout  # noqa: E402
-from booktext.layout import CONSTRUCTION, COUNTS, ENDS, ENTRY, HEAD, PATH_HEAD, PEER, PEERING, FINGERPRINTED  # noqa: E402
+from booktext.layout import CONSTRUCTION, COUNTS, ENDS, ENTRY, HEAD, HOP, INFO, PATH_HEAD, PEER, PEERING, FINGERPRINTED  # noqa: E402
+from booktext.layout import WIRE_HOP, WIRE_INFO, WIRE_META  # noqa: E402
 
 Segment = namedtuple("Segment", "position core timestamp id entries")
 Entry = namedtuple("Entry", "isd_as mtu ingress_mtu hop peers")
@@ -231,6 +232,61 @@ def routes(book, source, destination):
 
 def record(chain):
     return layout.solution(cost(chain), *((e.segment.position, e.shortcut, e.peer, CONSTRUCTION if in_construction(e) else 0) for e in chain))
+
+
+# ---- paths on the wire: docs/SPECIFICATION.md 15
+
+def written(path):
+    """The bytes of a path's record on the wire, or None where it has none."""
+    if len(path) < PATH_HEAD.size:
+        return None
+    head = PATH_HEAD.unpack(path)
+    hops_at = PATH_HEAD.size + INFO.size * head.info_count
+    interfaces_at = hops_at + HOP.size * head.hop_count
+    if not 1 <= head.info_count <= layout.MAX_EDGES or len(path) < interfaces_at + layout.INTERFACE_SIZE * head.interface_count:
+        return None
+    infos = [INFO.unpack(path, at) for at in range(PATH_HEAD.size, hops_at, INFO.size)]
+    hops = [HOP.unpack(path, at) for at in range(hops_at, interfaces_at, HOP.size)]
+    if any(i.flags > CONSTRUCTION + PEERING or not 1 <= i.hop_count <= layout.MAX_ENTRIES for i in infos):
+        return None
+    if sum(i.hop_count for i in infos) != len(hops):
+        return None
+    meta = WIRE_META.pack(0, 0, 0, *(i.hop_count for i in infos))
+    return meta + b"".join([WIRE_INFO.pack(i.flags, 0, i.id, i.timestamp) for i in infos] + [WIRE_HOP.pack(0, *h) for h in hops])
+
+
+def record_of(wire):
+    """The record that is written as these bytes and has nothing but its counts, infos and hops, or None where there is none."""
+    if len(wire) < WIRE_META.size:
+        return None
+    lengths = WIRE_META.unpack(wire)[-layout.MAX_EDGES:]
+    used = lengths[:lengths.index(0)] if 0 in lengths else lengths
+    hops_at = WIRE_META.size + WIRE_INFO.size * len(used)
+    end = hops_at + WIRE_HOP.size * sum(used)
+    if len(wire) < end:
+        return None
+    infos = [WIRE_INFO.unpack(wire, at) for at in range(WIRE_META.size, hops_at, WIRE_INFO.size)]
+    hops = [WIRE_HOP.unpack(wire, at) for at in range(hops_at, end, WIRE_HOP.size)]
+    record = PATH_HEAD.pack(info_count=len(used), hop_count=len(hops))
+    record += b"".join([INFO.pack(i.flags, n, i.id, i.timestamp) for i, n in zip(infos, used)] + [HOP.pack(*h[1:]) for h in hops])
+    return record if written(record) == wire else None
+
+
+def carried(found, out_len, least):
+    """The number that is answered, and all bytes of the output."""
+    if out_len < least:
+        return layout.REFUSED + layout.SMALL, bytes(out_len)
+    if found is None:
+        return layout.REFUSED + layout.WIRE, bytes(out_len)
+    return len(found), found.ljust(out_len, b"\0")
+
+
+def write(path, out_len):
+    return carried(written(path), out_len, layout.WIRE_SIZE)
+
+
+def read(wire, out_len):
+    return carried(record_of(wire), out_len, layout.PATH_SIZE)
 
 
 # ---- the printed list: docs/SPECIFICATION.md 10

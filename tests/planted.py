@@ -3,7 +3,7 @@
 
 Every rule of a hop at every place of the hop, in both directions, on every kind of edge; every part of an info so; every part of a path on
 every edge of a chain; every key of the order on every edge of a chain; every number of a stored edge, by its entry and peer. Left out are
-places that no chain has.
+places that no chain has. On the wire every byte of an info and of a hop, by its number there, read or written as 0; every bit that must be 0.
 """
 PLACES = {
     "the leaf": "eqb (i + 1) (length (seg .entries)) && not (atShortcut e i)",
@@ -82,6 +82,23 @@ AS_EDGES = {"up": ("leaf there", " ∷ edgeOf"), "down": ("there leaf", " ∷ []
 PEER_EDGES = {"up": ("leaf (Peering local (link .hop .ingress) (link .peer) (link .interface))", "n - i"),
               "down": ("(Peering (link .peer) (link .interface) local (link .hop .ingress)) leaf", "n - 1 - i")}
 
+# On the wire: what must be 0, its bits, its text, and the number that has the bits; the text of what is read and written, with the number of an info or hop.
+ZERO = {
+    "the current info": (range(30, 32), "currentInfo w = NUMBER / 2 ^ 30", "be32 w 0"),
+    "the current hop": (range(24, 30), "currentHop w = NUMBER / 2 ^ 24 % 2 ^ 6", "be32 w 0"),
+    "what is reserved": (range(18, 24), "metaReserved w = NUMBER / 2 ^ 18 % 2 ^ 6", "be32 w 0"),
+    "an info's flags": (range(2, 8), "ltb 3 (NUMBER) ||", "getD w at 0"),
+    "an info's reserved byte": (range(8), "|| not (eqb (NUMBER) 0)", "getD w (at + 1) 0"),
+    "a hop's flags": (range(8), "not (eqb (NUMBER) 0)", "getD w (wireHopOffset w k) 0"),
+    "a record's flags": (range(2, 8), "ltb 3 (NUMBER) ||", "getD r at 0"),
+}
+CARRIED = {
+    "an info read": ("wireInfosIn w = map (wireInfo BYTES)", "w", "wireInfoOffset K", (0, *range(2, 8)), range(3)),
+    "an info written": ("wireOctets (infosIn BYTES)", "r", "pathHeadSize + infoSize * K", (0, *range(2, 8)), range(3)),
+    "a hop read": ("wireHopsIn w = map (wireHop BYTES)", "w", "wireHopOffset w K", range(1, 12), (0, 1, 7)),
+    "a hop written": ("(hopsIn BYTES)", "r", "pathHeadSize + infoSize * pathHeadIn r .infos + hopSize * K", range(11), (0, 1, 7)),
+}
+
 
 def possible(where, place, kind):
     peer, at = "peer" in kind, place in ("the shortcut", "the leaf that is the shortcut")
@@ -158,6 +175,18 @@ def main():
                     if key != "peer" or how != "before the other keys":
                         plant(f"{key} {how} on {one}", (old, on(f"(λ x y. {' thenBy '.join(keys)})", "compareEdges")), lists)
             plant(f"positions reversed on {one}", ("thenBy compareBy comparePositions es fs", on("comparePositions", "comparePositions", True)), lists)
+    print("file: specs/Wire.antt")
+    lists = ("use lib.ListN.{length, getD, replicate}", "use lib.ListN.{length, getD, replicate, take, drop}")
+    for what, (bits, text, number) in ZERO.items():
+        for bit in bits:
+            without = f"({number} - {number} / 2 ^ {bit} % 2 * 2 ^ {bit})"
+            plant(f"wire: bit {bit} of {what} is not asked for", (text.replace("NUMBER", number), text.replace("NUMBER", without)))
+    for what, (text, of, start, places, numbers) in CARRIED.items():
+        for k in numbers:
+            for byte in places:
+                at = f"{start.replace('K', str(k))} + {byte}"
+                lost = f"(take ({at}) {of} ++ (0 ∷ []) ++ drop ({at} + 1) {of})"
+                plant(f"wire: byte {byte} of {what} is 0, number {k}", (text.replace("BYTES", of), text.replace("BYTES", lost)), lists)
 
 
 main()

@@ -25,7 +25,7 @@ import generate
 import model
 from booktext import BookError, answers, isd_as, layout, printed, refusal, times, why
 from booktext.layout import ENDS, Entry, Peer, Segment
-from test_book import EXAMPLES, LIST, MODEL, asked, book
+from test_book import EXAMPLES, LIST, MODEL, WORKED_WIRE, asked, book
 
 combinator = answers.combinator
 # Of a library that is named and is none, this is an error.
@@ -506,6 +506,143 @@ class Routes(unittest.TestCase):
         self.assertEqual(one["why"]["expiry"]["units"], 63)
 
 
+def laid_out(words):
+    """The bytes that the words of the parts say, one part after the other."""
+    found = b""
+    for line in words:
+        numbers = [int(n) for n in re.findall(r" (?:info|hop|reserved|hops|flags|timestamp|units|ingress|egress) (\d+)\b", line.partition(":")[2])]
+        if line.startswith("meta: "):
+            info, hop_, reserved = numbers[:3]
+            lengths = [int(n) for n in line.rpartition(" hops ")[2].split()]
+            found += (info << 30 | hop_ << 24 | reserved << 18 | lengths[0] << 12 | lengths[1] << 6 | lengths[2]).to_bytes(4, "big")
+        elif line.startswith("info "):
+            flags, reserved, timestamp = numbers
+            found += bytes((flags, reserved, *bytes.fromhex(re.search(r" segment id ([0-9a-f]{4}),", line)[1]))) + timestamp.to_bytes(4, "big")
+        else:
+            flags, units, ingress, egress = numbers
+            found += bytes((flags, units)) + ingress.to_bytes(2, "big") + egress.to_bytes(2, "big") + bytes.fromhex(line.rpartition(" MAC ")[2])
+    return found
+
+
+class OnWire(unittest.TestCase):
+    """The bytes of paths for the routers."""
+
+    def blocks(self, out):
+        """Of each solution its number, its hex and the parts in hex and words; None for one without bytes."""
+        found, lines = [], out.decode().splitlines()
+        for k, line in enumerate(lines):
+            if line[0].isdigit():
+                found.append([int(line.split()[0]), None, []])
+            elif line.startswith("  wire, "):
+                found[-1][1] = lines[k + 1].strip()
+                self.assertEqual(line, f"  wire, {len(found[-1][1]) // 2} bytes:")
+            elif line.startswith("    ") and found[-1][1] != line.strip():
+                found[-1][2].append(re.fullmatch(r"    ([0-9a-f ]*[0-9a-f])  +(\S.*)", line).groups())
+        return found
+
+    def test_example(self):
+        house = ROOT / "examples" / "house.book"
+        self.assertEqual(book("list", "--wire", "--names", house.with_suffix(".names"), "--now", "2026-01-01T06:30", *EXAMPLES["house"], house),
+                         (0, house.with_suffix(".wire").read_bytes(), ""))
+
+    def test_worked(self):
+        worked = ROOT / "examples" / "worked.book"
+        status, out, said = book("list", "--wire", *EXAMPLES["worked"], worked)
+        self.assertEqual((status, said), (0, ""))
+        self.assertTrue(out.decode().endswith("\n" + WORKED_WIRE))
+        self.assertEqual(out.decode().replace(WORKED_WIRE, "").encode(), book("list", *EXAMPLES["worked"], worked)[1])
+        data = "0000200000001336000f4240003f000700000a0b0c0d0e0f003f00000005010203040506"
+        self.assertEqual(book("list", "--wire", "--plain", *EXAMPLES["worked"], worked),
+                         (0, worked.with_suffix(".list").read_bytes() + f"wire {data}\n".encode(), ""))
+        self.assertEqual(json.loads(book("list", "--wire", "--json", *EXAMPLES["worked"], worked)[1])["solutions"][0]["wire"], data)
+        self.assertIsNone(json.loads(book("list", "--json", *EXAMPLES["worked"], worked)[1])["solutions"][0]["wire"])
+
+    def test_told(self):
+        """Of every path, and of no other solution; hex, parts and words say the same."""
+        seen = set()
+        for source, destination, data in [*generate.cases("wire", 40), *stored(form.answers())[:60], *map(example, EXAMPLES)]:
+            ends = isd_as.written(source), isd_as.written(destination)
+            solutions = answers.by_library(source, destination, data).solutions
+            want = [(s.number, model.written(s.path.as_bytes()).hex() if s.path else None) for s in solutions]
+            status, out, said = book("list", "--wire", "--now", 0, *ends, given=data)
+            self.assertEqual((status, said), (0, ""))
+            found = self.blocks(out)
+            self.assertEqual([(number, hex_) for number, hex_, _ in found], want)
+            for _, hex_, parts in found:
+                if hex_:
+                    self.assertEqual("".join(part.replace(" ", "") for part, _ in parts), hex_)
+                    self.assertEqual(laid_out(words for _, words in parts).hex(), hex_)
+                    seen.add(len(hex_))
+                else:
+                    self.assertEqual(parts, [])
+                seen.add(bool(hex_))
+            # All else is as without them.
+            kept = [line for line in out.decode().splitlines(True) if not line.startswith(("  wire, ", "    "))]
+            self.assertEqual("".join(kept).encode(), book("list", "--now", 0, *ends, given=data)[1])
+            status, out, said = book("list", "--wire", "--json", "--now", 0, *ends, given=data)
+            self.assertEqual((status, [(s["number"], s["wire"]) for s in json.loads(out)["solutions"]], said), (0, want, ""))
+            status, out, said = book("list", "--wire", "--plain", *ends, given=data)
+            self.assertEqual((status, re.findall(r"^wire (.*)$", out.decode(), re.M), said), (0, [hex_ for _, hex_ in want if hex_], ""))
+            self.assertEqual(re.sub(r"^wire .*\n", "", out.decode(), flags=re.M), model.printed(asked(source, destination, data)))
+        self.assertLessEqual({False, True}, seen)
+        self.assertGreater(len(seen), 12)
+
+    def test_routes(self):
+        """Those of the path that is kept."""
+        renewed = ROOT / "examples" / "renewed.book"
+        status, out, said = book("list", "--wire", "--routes", "--now", 0, *EXAMPLES["renewed"], renewed)
+        self.assertEqual((status, said), (0, ""))
+        _, whole, _ = book("list", "--wire", "--now", 0, *EXAMPLES["renewed"], renewed)
+        of_all = {number: (hex_, parts) for number, hex_, parts in self.blocks(whole)}
+        # By examples/renewed.txt these solutions live longest.
+        kept = [(number, *of_all[solution]) for number, solution in enumerate((2, 3, 7, 8, 10), 1)]
+        self.assertEqual([tuple(block) for block in self.blocks(out)], kept)
+        self.assertEqual(len({hex_ for hex_, _ in of_all.values()}), 11)
+        status, out, said = book("list", "--wire", "--routes", "--json", *EXAMPLES["renewed"], renewed)
+        self.assertEqual((status, [r["wire"] for r in json.loads(out)["routes"]], said), (0, [hex_ for _, hex_, _ in kept], ""))
+        status, out, said = book("list", "--wire", "--routes", "--plain", *EXAMPLES["renewed"], renewed)
+        self.assertEqual((status, re.findall(r"^wire (.*)$", out.decode(), re.M), said), (0, [hex_ for _, hex_, _ in kept], ""))
+
+    def test_no_path(self):
+        for data in (layout.write([segment(hop(X, 0, 2), hop(S, 1, 0)), segment(hop(X, 4, 3), hop(D, 1, 0))]), layout.write([segment(hop(D), hop(S))])):
+            status, out, said = book("list", "--wire", "--now", 0, "1-1", "1-2", given=data)
+            self.assertEqual((status, out, said), book("list", "--now", 0, "1-1", "1-2", given=data))
+            self.assertIsNone(json.loads(book("list", "--wire", "--json", "1-1", "1-2", given=data)[1])["solutions"][0]["wire"])
+        self.assertEqual(book("list", "--wire", "1-1", "1-2", given=bytes(7))[0:2], book("list", "1-1", "1-2", given=bytes(7))[0:2])
+
+    def test_without(self):
+        with Without(), mock.patch.object(answers, "PROGRAMS", (Path("/no/such/list"), MODEL)):
+            status, out, said = book("list", "--wire", *EXAMPLES["worked"], ROOT / "examples" / "worked.book")
+        self.assertEqual((status, out), (2, b""))
+        self.assertTrue(said.startswith("book: the program gives no bytes for the wire, the library does: libcombinator.so is neither in /no/such nor "), said)
+
+    def test_errors(self):
+        """Bytes that are not those of the path are said, in each form of the list."""
+        data = "0000200000001336000f4240003f000700000a0b0c0d0e0f003f00000005010203040506"
+        worked, real = ROOT / "examples" / "worked.book", combinator.write
+        said = "book: the library's answers differ from what is worked out here, for 1 solution\n"
+        for change in (lambda w: w[:-1], lambda w: w + b"\0", lambda w: w[:3] + b"\x01" + w[4:], lambda w: w[:4] + b"\x80" + w[5:], lambda w: b""):
+            wrong = change(bytes.fromhex(data)).hex()
+            error = f"the path on the wire is {wrong}, worked out here it is {data}"
+            with mock.patch.object(combinator, "write", lambda path: change(real(path))):
+                for options in ((), ("--routes",)):
+                    status, out, told = book("list", "--wire", *options, *EXAMPLES["worked"], worked)
+                    self.assertEqual((status, told), (1, said))
+                    self.assertTrue(out.decode().endswith(f"  error: {error}\n  wire, {len(wrong) // 2} bytes:\n    {wrong}\n"), out.decode())
+                    status, out, told = book("list", "--wire", "--json", *options, *EXAMPLES["worked"], worked)
+                    found, = json.loads(out)["routes" if options else "solutions"]
+                    self.assertEqual((status, found["wire"], found["why"]["errors"], told), (1, wrong, [error], said))
+                    status, out, told = book("list", "--wire", "--plain", *options, *EXAMPLES["worked"], worked)
+                    self.assertEqual((status, out.decode().splitlines()[-1].rstrip(), told), (1, f"wire {wrong}".rstrip(), said))
+
+        def refused(path):
+            raise combinator.Refusal(layout.WIRE)
+        with mock.patch.object(combinator, "write", refused):
+            self.assertEqual(book("list", "--wire", *EXAMPLES["worked"], worked),
+                             (2, b"", "book: the library does not write the path of solution 1: refused 12 Wire: the path has no form on the wire, "
+                                      "or no path has these bytes\n"))
+
+
 class Errors(unittest.TestCase):
     """An answer that is not what is worked out of the book is said, and the exit status is 1."""
 
@@ -705,8 +842,10 @@ class Json(unittest.TestCase):
         walk(self.read(S, D, bytes(7), status=1))
         self.assertGreater(len(names), 40)
         section = page.split(".SH THE LIST AS JSON")[1].split("\n.SH ")[0]
-        self.assertEqual(names - set(re.findall(r"\w+", section)), set())
-        for option in ("library", "program", "now", "plain", "json", "routes"):
+        # In bold, not in a sentence alone, and not as an option.
+        bold = " ".join(re.findall(r"^\.(?:B|BR|RB) (.*)$", section, re.M))
+        self.assertEqual(names - set(re.findall(r"(?<![-\w])\w+", bold)), set())
+        for option in ("library", "program", "now", "plain", "json", "routes", "wire"):
             self.assertIn(f"\\-\\-{option}", page)
 
     def test_plain(self):

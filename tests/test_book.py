@@ -28,7 +28,7 @@ sys.path[:0] = [str(ROOT / "tools"), str(HERE)]
 
 import generate
 import model
-from booktext import BookError, Trouble, as_json, dot, draw, forms, isd_as, layout, names, notes, printed, refusal, routes, text, times
+from booktext import BookError, Trouble, answers, as_json, dot, draw, forms, isd_as, layout, names, notes, printed, refusal, routes, text, times, wire
 from booktext.layout import COUNTS, ENDS, ENTRY, HEAD, PEER, Entry, Peer, Segment, head_place
 from booktext.picture import COLOURS, MOST, PAGE, Picture
 
@@ -52,6 +52,16 @@ solutions 1 paths 1
 info 0 1336 1000000
 if 0001ff0000000111 7
 if 0001ff0000000110 5
+"""
+
+# Its path for the routers, from the data draft's layout, as the tool shows it.
+WORKED_WIRE = """\
+  wire, 36 bytes:
+    0000200000001336000f4240003f000700000a0b0c0d0e0f003f00000005010203040506
+    00002000                      meta: current info 0, current hop 0, reserved 0, hops 2 0 0
+    00 00 1336 000f4240           info 0: flags 0 (against construction), reserved 0, segment id 1336, timestamp 1000000 (1970-01-12T13:46:40Z)
+    00 3f 0007 0000 0a0b0c0d0e0f  hop 0, of info 0: flags 0, units 63, ingress 7, egress 0, MAC 0a0b0c0d0e0f
+    00 3f 0000 0005 010203040506  hop 1, of info 0: flags 0, units 63, ingress 0, egress 5, MAC 010203040506
 """
 
 EXAMPLES = {"worked": ("1-ff00:0:111", "1-ff00:0:110"), "house": ("1-ff00:0:131", "1-ff00:0:141"), "renewed": ("1-ff00:0:131", "1-ff00:0:141"),
@@ -806,7 +816,7 @@ if 0001ff0000000110 5      1-ff00:0:110#5
 
     def test_usage(self):
         for args in ((), ("encode", "a", "b"), ("list", "1-1"), ("list", "1-x", "1-2"), ("draw", "1-1", "1-2"), ("draw", "1-1", "1-2", "-o", "x.jpeg"),
-                     ("draw", "1-1", "1-2", "-o", "x.svg", "--paths", "3-1"), ("check", "--all")):
+                     ("draw", "1-1", "1-2", "-o", "x.svg", "--paths", "3-1"), ("draw", "1-1", "1-2", "-o", "x.svg", "--wire"), ("check", "--all")):
             with self.subTest(args=args):
                 status, out, said = book(*args)
                 self.assertEqual((status, out), (2, b""))
@@ -948,6 +958,91 @@ if 0001000000000002 5
             self.assertNotIn(COLOURS[2], words)
             status, _, said = book(*draw_, "--routes", "--paths", "3", given=self.book())
             self.assertEqual((status, said), (2, "book: there is no route 3: the list has 2\n"))
+
+
+class Wire(unittest.TestCase):
+    """Bytes for the routers, worked out by hand from the data draft's layout. Those of the library: test_answers.py."""
+    # The first path of the house, out by the peer of entry 1 of segment 2 and in by that of segment 3. By examples/house.txt the ids are
+    # 66da ^ b191 ^ c31b and 7178 ^ bd92 ^ ec95; 2026-01-01T06:15:00Z is 695610e4, five minutes before it 69560fb8.
+    HOUSE = bytes.fromhex("00002080" "02" "00" "1450" "695610e4" "03" "00" "207f" "69560fb8" "00" "3f" "0002" "0000" "606fb495ca0b"
+                          "00" "2f" "0003" "0002" "d1a45aeafc33" "00" "2f" "0003" "0002" "9f8df64c59dd" "00" "3f" "0001" "0000" "22af02298783")
+
+    def path(self, infos, hops):
+        """A path of the library's. Infos are (flags, hop count, id, timestamp), hops (units, ingress, egress, MAC)."""
+        return answers.combinator.Path(layout.path(1500, 1, infos, hops, [(A, 7), (B, 5)]))
+
+    def solution(self, path, data):
+        return printed.Solution(1, 1, 1, "path", path=path, wire=data)
+
+    def worked(self):
+        return self.path([(0, 2, 0x1336, 1000000)], [(63, 7, 0, bytes.fromhex("0a0b0c0d0e0f")), (63, 0, 5, bytes.fromhex("010203040506"))])
+
+    def model_paths(self, name):
+        """The paths of an example by the model, as those of the library."""
+        source, destination = map(isd_as.parse, EXAMPLES[name])
+        for chain in model.solutions((ROOT / "examples" / f"{name}.book").read_bytes(), source, destination):
+            p = model.path(chain)
+            yield self.path([(flags, count, ident, timestamp) for flags, ident, timestamp, count in p.infos], p.hops)
+
+    def test_worked_out(self):
+        path = self.worked()
+        data = bytes.fromhex("00002000" "00001336000f4240" "003f000700000a0b0c0d0e0f" "003f00000005010203040506")
+        self.assertEqual(wire.worked_out(path), data)
+        self.assertEqual(wire.told(self.solution(path, data)), WORKED_WIRE)
+        self.assertEqual(wire.line(self.solution(path, data)), f"wire {data.hex()}\n")
+        self.assertEqual(wire.worked_out(next(self.model_paths("house"))), self.HOUSE)
+        for name in EXAMPLES:
+            for path in self.model_paths(name):
+                self.assertEqual(wire.worked_out(path), model.written(path.as_bytes()))
+
+    def test_order(self):
+        """The meta header has the counts in the order of the infos, and every hop is told with its info."""
+        mac = bytes(layout.MAC_SIZE)
+        path = self.path([(1, 3, 1, 2), (3, 1, 3, 4), (0, 2, 5, 6)], [(k, 2 * k, 2 * k + 1, mac) for k in range(6)])
+        data = wire.worked_out(path)
+        # 3 * 4096 + 1 * 64 + 2
+        self.assertEqual((data[:4].hex(), len(data)), ("00003042", 4 + 3 * 8 + 6 * 12))
+        self.assertEqual(data[4:28].hex(), "0100" "0001" "00000002" "0300" "0003" "00000004" "0000" "0005" "00000006")
+        self.assertEqual(data[28 + 12 * 5:].hex(), "0005" "000a" "000b" "000000000000")
+        told = [words for _, words in wire.parts(data)]
+        self.assertEqual([words.split(":")[0] for words in told], ["meta", "info 0", "info 1", "info 2", "hop 0, of info 0", "hop 1, of info 0",
+                                                                  "hop 2, of info 0", "hop 3, of info 1", "hop 4, of info 2", "hop 5, of info 2"])
+        self.assertEqual(told[0], "meta: current info 0, current hop 0, reserved 0, hops 3 1 2")
+        self.assertEqual(told[2], "info 1: flags 3 (in construction direction, peering), reserved 0, segment id 0003, timestamp 4 (1970-01-01T00:00:04Z)")
+
+    def test_meta(self):
+        """Current info 2 bits, current hop 6, reserved 6, three counts of 6."""
+        data, numbers = (1 << 30 | 2 << 24 | 3 << 18 | 4 << 12 | 5 << 6 | 6).to_bytes(4, "big"), (1, 2, 3, 4, 5, 6)
+        meta = layout.WIRE_META.unpack(data)
+        self.assertEqual((meta, meta.current_info, meta.current_hop, meta.reserved), (numbers, 1, 2, 3))
+        self.assertEqual(layout.WIRE_META.pack(*numbers), data)
+
+    def test_other_bytes(self):
+        """Bytes that are not as worked out here, of whatever form, have no parts."""
+        for data in (b"", b"\xff", b"\xff" * 36, bytes(35), bytes(37)):
+            said = f"  wire, {len(data)} byte{'' if len(data) == 1 else 's'}:\n    {data.hex()}\n"
+            self.assertEqual(wire.told(self.solution(self.worked(), data)), said)
+        self.assertEqual((wire.told(self.solution(self.worked(), None)), wire.line(self.solution(self.worked(), None))), ("", ""))
+
+    def test_program(self):
+        """The program gives none, whatever the book."""
+        said = "book: the program gives no bytes for the wire, the library does: build it with make lib, or name it with --library\n"
+        for data in ((ROOT / "examples" / "worked.book").read_bytes(), COUNTS.pack(), bytes(7)):
+            for options in ((), ("--plain",), ("--json",), ("--routes",)):
+                self.assertEqual(book("list", "--wire", *options, "--program", MODEL, *EXAMPLES["worked"], given=data), (2, b"", said))
+
+    def test_example(self):
+        """examples/house.wire: its bytes by the model's paths, and all else as without them."""
+        lines = (ROOT / "examples" / "house.wire").read_text().splitlines()
+        found = [lines[k + 1].strip() for k, line in enumerate(lines) if line.startswith("  wire, ")]
+        self.assertEqual(found, [model.written(path.as_bytes()).hex() for path in self.model_paths("house")])
+        self.assertEqual((len(found), found[0]), (5, self.HOUSE.hex()))
+        listed = [line for line in lines if not line.startswith("  ")]
+        for plain, line in zip((ROOT / "examples" / "house.list").read_text().splitlines(), listed):
+            self.assertTrue(line.startswith(plain))
+        # The parts are the whole, and stand below each path.
+        parts = ["".join(re.match(r"    ((?:[0-9a-f]+ )+)", line)[1].split()) for line in lines if re.match(r"    [0-9a-f ]+  \w", line)]
+        self.assertEqual("".join(parts), "".join(found))
 
 
 @contextlib.contextmanager
@@ -1362,6 +1457,10 @@ class Manual(unittest.TestCase):
         found = json.loads(book("check", "--json", "--now", "2026-01-01T12:00:01", ROOT / "examples" / "house.book")[1])
         self.assertEqual({**found, "notes": [n for n in found["notes"] if n["position"] == 0]}, accepted)
         self.assertEqual(json.loads(book("check", "--json", ROOT / "examples" / "twice.book")[1]), refused)
+
+    def test_wire(self):
+        """The example of the page is the worked one."""
+        self.assertIn("".join(line[2:] + "\n" for line in WORKED_WIRE.splitlines()), self.PAGE)
 
     def test_notes(self):
         section = self.PAGE[self.PAGE.index(".SH NOTES"):self.PAGE.index(".SH EXIT STATUS")]

@@ -3,8 +3,10 @@
 import ast
 import ctypes
 import inspect
+import itertools
 import os
 import pickle
+import random
 import re
 import subprocess
 import sys
@@ -19,13 +21,14 @@ HERE = File(__file__).resolve().parent
 ROOT = HERE.parent
 BINDING = ROOT / "bindings" / "python"
 sys.dont_write_bytecode = True
-sys.path[:0] = [str(BINDING), str(HERE / "stored")]
+sys.path[:0] = [str(BINDING), str(HERE), str(HERE / "stored")]
 
 import combinator
 from combinator import (AsEntry, Bare, BookWriter, HopField, InfoField, IsdAsn, Loop, ParseError, Path, PathInterface, PeerEntry,
                         Refusal, Segment, Solution, SolutionEdge, Solutions)
 from booktext import layout
 import form
+import model
 
 # The worked example of docs/SPECIFICATION.md 10.6.
 SRC, DST = IsdAsn(0x0001FF0000000111), IsdAsn(0x0001FF0000000110)
@@ -148,12 +151,28 @@ class Stored(unittest.TestCase):
                     self.assertEqual(refused.word, layout.WORDS[number])
                 self.assertEqual(found, number)
             seen.add(number)
-        self.assertEqual(seen, {0, *layout.WORDS})
+        # Wire is of the calls that take no book.
+        self.assertEqual(seen, {0, *layout.WORDS} - {layout.WIRE})
+
+    def test_wire(self):
+        r, seen = form.Reader("wire.bin"), set()
+        while r.at < len(r.data):
+            given = r.take(int.from_bytes(r.take(form.FRONT), "big"))
+            call, room, number, length = r.next(form.CARRIAGE)
+            want, found, refusal = r.take(length), b"", 0
+            try:
+                found = combinator.write(given, room) if call == form.WRITING else combinator.read(given, room).as_bytes()
+            except Refusal as refused:
+                refusal = refused.number
+            self.assertEqual((refusal, found), (number, want))
+            seen.add((call, number))
+        self.assertEqual(seen, set(itertools.product((form.WRITING, form.READING), (0, layout.SMALL, layout.WIRE))))
 
     def test_every_refusal_has_a_meaning(self):
         self.assertEqual(set(combinator.MEANINGS), set(layout.WORDS))
         self.assertEqual(str(Refusal(layout.FULL)), "refused 8 Full: there are more solutions than slots")
         self.assertEqual(str(Refusal(11)), "refused 11 Twice: an entry's AS stands earlier in the same segment")
+        self.assertEqual(str(Refusal(12)), "refused 12 Wire: the path has no form on the wire, or no path has these bytes")
         self.assertEqual((Refusal(99).word, str(Refusal(99))), ("unknown", "refused 99 unknown"))
         self.assertEqual(pickle.loads(pickle.dumps(Refusal(layout.FULL))).number, layout.FULL)
 
@@ -213,6 +232,269 @@ class Routes(unittest.TestCase):
         self.check(self.book(("non_core", 1, (self.X, 0, 2), (SRC, 1, 0)), ("non_core", 2, (self.X, 4, 3), (DST, 1, 0))), [(0, 1)], [])
         self.check(self.book(("non_core", 1, (DST, 0, 0), (SRC, 0, 0))), [(0,)], [])
         self.assertEqual(len(combinator.routes(SRC, SRC, WORKED, 0)), 0)
+
+
+def of_draft(infos, hops):
+    """The standard path of the data draft. Infos are (flags, hop count, id, timestamp), hops (units, ingress, egress, MAC)."""
+    counts = [count for _, count, _, _ in infos] + [0, 0]
+    found = [(counts[0] << 12 | counts[1] << 6 | counts[2]).to_bytes(4, "big")]
+    found += [bytes((flags, 0)) + ident.to_bytes(2, "big") + timestamp.to_bytes(4, "big") for flags, _, ident, timestamp in infos]
+    found += [bytes((0, units)) + ingress.to_bytes(2, "big") + egress.to_bytes(2, "big") + mac for units, ingress, egress, mac in hops]
+    return b"".join(found)
+
+
+class Wire(unittest.TestCase):
+    """Paths on the wire. Bytes that are expected are worked out by hand from the data draft's layout."""
+    # Against construction; through a peer, in construction direction.
+    INFOS = (0, 2, 0x1336, 1000000), (3, 1, 0xABCD, 0xFEDCBA98)
+    HOPS = (*WORKED_HOPS, (255, 0x0102, 0x0304, bytes.fromhex("a1a2a3a4a5a6")))
+    BYTES = bytes.fromhex("00002040" "00" "00" "1336" "000f4240" "03" "00" "abcd" "fedcba98"
+                          "00" "3f" "0007" "0000" "0a0b0c0d0e0f" "00" "3f" "0000" "0005" "010203040506" "00" "ff" "0102" "0304" "a1a2a3a4a5a6")
+
+    def record(self, infos=INFOS, hops=HOPS, interfaces=b"", **head):
+        """A path's record; counts are those of what is given unless they are given too, and interfaces are bytes."""
+        counts = {"info_count": len(infos), "hop_count": len(hops), "interface_count": len(interfaces) // layout.INTERFACE_SIZE}
+        return (layout.PATH_HEAD.pack(**{**counts, **head}) + b"".join(layout.INFO.pack(*i) for i in infos) +
+                b"".join(layout.HOP.pack(*h) for h in hops) + interfaces)
+
+    def many(self, *counts, flags=0):
+        """Infos with so many hops, and hops, of which no two are equal."""
+        infos = [(flags, count, 0x0101 * k, 7 + k) for k, count in enumerate(counts)]
+        return infos, [(k % 256, 2 * k, 2 * k + 1, k.to_bytes(layout.MAC_SIZE, "big")) for k in range(sum(counts))]
+
+    def refused(self, work, given, number=layout.WIRE, **room):
+        with self.assertRaises(Refusal) as found:
+            work(given, **room)
+        self.assertEqual(found.exception.number, number)
+
+    def answered(self, name, given, room):
+        """The number that a function answers, and all bytes of its output, which held others."""
+        out = ctypes.create_string_buffer(b"\xff" * room, room)
+        return getattr(combinator.load(), name)(given, len(given), out, room), out.raw
+
+    def test_by_hand(self):
+        self.assertEqual(combinator.write(self.record()), self.BYTES)
+        path = combinator.read(self.BYTES)
+        self.assertEqual(path.as_bytes(), self.record())
+        self.assertEqual(path.infos, (WORKED_INFO, InfoField(True, True, 1, 0xABCD, 0xFEDCBA98)))
+        self.assertEqual(path.hops, self.HOPS)
+        self.assertEqual((path.interfaces, path.mtu, path.expiry, path.first_as, path.last_as), ((), 0, 0, 0, 0))
+        self.assertEqual(combinator.write(path), self.BYTES)
+
+    def test_worked(self):
+        wire = bytes.fromhex("00002000" "00001336000f4240" "003f000700000a0b0c0d0e0f" "003f00000005010203040506")
+        path = combinator.assemble(SRC, DST, WORKED, combinator.list(SRC, DST, WORKED)[0])
+        self.assertEqual(combinator.write(path), wire)
+        self.assertEqual(combinator.read(wire).segments, path.segments)
+        # From the other end: in construction direction, with the hops turned.
+        path = combinator.assemble(DST, SRC, WORKED, combinator.list(DST, SRC, WORKED)[0])
+        self.assertEqual(combinator.write(path).hex(), "00002000" "01001234000f4240" "003f00000005010203040506" "003f000700000a0b0c0d0e0f")
+
+    def test_flags(self):
+        for flags in range(4):
+            wire = of_draft([(flags, 1, 1, 2)], self.HOPS[:1])
+            self.assertEqual(wire[layout.WIRE_META_SIZE], flags)
+            self.assertEqual(combinator.write(self.record([(flags, 1, 1, 2)], self.HOPS[:1])), wire)
+            info, = combinator.read(wire).infos
+            self.assertEqual((info.construction, info.peering, info.flags), (flags % 2 == 1, flags >= 2, flags))
+
+    def test_counts(self):
+        """In the order of the infos, six bits each."""
+        longest = 0
+        for length in range(1, layout.MAX_EDGES + 1):
+            for counts in itertools.product((1, 2, layout.MAX_ENTRIES), repeat=length):
+                infos, hops = self.many(*counts)
+                wire = combinator.write(self.record(infos, hops))
+                a, b, c = (*counts, 0, 0)[:3]
+                self.assertEqual(int.from_bytes(wire[:4], "big"), a * 4096 + b * 64 + c)
+                self.assertEqual(wire, of_draft(infos, hops))
+                self.assertEqual(combinator.read(wire).as_bytes(), self.record(infos, hops))
+                longest = max(longest, len(wire))
+        self.assertEqual(longest, combinator.WIRE_SIZE)
+
+    def test_stored(self):
+        r, seen = form.Reader("answers.bin"), set()
+        while r.at < len(r.data):
+            r.take(int.from_bytes(r.take(form.FRONT), "big"))
+            count = r.next(form.COUNT).solutions
+            r.take(Solution.SIZE * count)
+            for _ in range(count):
+                answer, length = r.next(form.OUTCOME)
+                record = r.take(length)
+                if answer != layout.PATH:
+                    continue
+                path = Path(record)
+                infos = [(i.flags, i.hops, i.id, i.timestamp) for i in path.infos]
+                wire = combinator.write(path)
+                self.assertEqual(wire, of_draft(infos, path.hops))
+                self.assertEqual(combinator.write(record), wire)
+                found = combinator.read(wire)
+                self.assertEqual((found.infos, found.hops), (path.infos, path.hops))
+                self.assertEqual(found.as_bytes(), self.record(infos, path.hops))
+                self.assertEqual(combinator.write(found), wire)
+                seen.update((len(infos), i.flags) for i in path.infos)
+        self.assertLessEqual({(1, 0), (1, 1), (2, 2), (2, 3), (3, 0), (3, 1)}, seen)
+
+    def test_generated(self):
+        """Records and bytes, of which some are damaged, against the model: what is answered, and the whole output."""
+        r, seen = random.Random("wire"), set()
+        for _ in range(3000):
+            counts = [r.choice((1, 2, 3, layout.MAX_ENTRIES)) for _ in range(r.randint(1, layout.MAX_EDGES))]
+            infos = [(r.randrange(4), count, r.getrandbits(16), r.getrandbits(32)) for count in counts]
+            hops = [(r.getrandbits(8), r.getrandbits(16), r.getrandbits(16), r.getrandbits(48).to_bytes(layout.MAC_SIZE, "big")) for _ in range(sum(counts))]
+            interfaces = bytes(r.getrandbits(8) for _ in range(layout.INTERFACE_SIZE * r.randrange(4)))
+            for name, given, least, wanted in (("combinator_write", self.record(infos, hops, interfaces), combinator.WIRE_SIZE, model.write),
+                                               ("combinator_read", of_draft(infos, hops), Path.SIZE, model.read)):
+                for damaged in (False, True):
+                    data = bytearray(given)
+                    for _ in range(damaged * r.randint(1, 2)):
+                        # Counts and flags stand at the front.
+                        place = r.randrange(r.choice((4, 40, len(data))))
+                        data[place % len(data)] = r.choice((0, 1, layout.MAX_ENTRIES, layout.MAX_ENTRIES + 1, r.getrandbits(8)))
+                    if damaged and r.random() < 0.2:
+                        data = data[:r.randrange(len(data))] if r.random() < 0.5 else data + bytes(r.choice((1, 8, 12)))
+                    room = r.choice((least, least, least, least - 1, least + 9))
+                    answer, out = self.answered(name, bytes(data), room)
+                    self.assertEqual((answer, out), wanted(bytes(data), room))
+                    seen.add((name, max(answer - layout.REFUSED, 0)))
+        self.assertEqual(seen, set(itertools.product(("combinator_write", "combinator_read"), (0, layout.SMALL, layout.WIRE))))
+
+    # ---- the writer
+
+    def test_of_no_matter(self):
+        """What stands at offsets 3 to 25 and in the interfaces, and bytes after those."""
+        head = {"zero": 255, "mtu": 65535, "expiry": 2**32 - 1, "first_as": 2**64 - 1, "last_as": 2**64 - 1}
+        for interfaces in range(layout.MAX_INTERFACES + 1):
+            for record in (self.record(interfaces=b"\xff" * layout.INTERFACE_SIZE * interfaces, **head),
+                           self.record(interfaces=bytes(layout.INTERFACE_SIZE * interfaces))):
+                self.assertEqual(combinator.write(record), self.BYTES)
+        for more in (1, 7, Path.SIZE, 2**17):
+            self.assertEqual(combinator.write(self.record() + b"\xff" * more), self.BYTES)
+
+    def test_count_of_infos(self):
+        self.refused(combinator.write, self.record([], []))
+        self.refused(combinator.write, self.record([], self.HOPS))
+        self.refused(combinator.write, bytes(Path.SIZE))
+        for count in (layout.MAX_EDGES + 1, 64, 255):
+            infos, hops = self.many(*[1] * count)
+            self.refused(combinator.write, self.record(infos, hops))
+        # The counts of a fourth info would leave the sum as it is.
+        infos, hops = self.many(1, 1, 1)
+        self.refused(combinator.write, self.record([*infos, (0, 0, 0, 0)], hops))
+
+    def test_flags_above(self):
+        for place in range(layout.MAX_EDGES):
+            for flags in (4, 5, 7, 8, 16, 32, 64, 128, 130, 255):
+                infos, hops = self.many(1, 1, 1)
+                infos[place] = (flags, *infos[place][1:])
+                self.refused(combinator.write, self.record(infos, hops))
+
+    def test_hops_of_an_info(self):
+        for length in range(1, layout.MAX_EDGES + 1):
+            for place in range(length):
+                for count in (0, layout.MAX_ENTRIES + 1, 64, 251):
+                    counts = [2] * length
+                    counts[place] = count
+                    self.refused(combinator.write, self.record(*self.many(*counts)))
+
+    def test_sum(self):
+        for counts in ((2,), (2, 1), (3, 1, 2), (layout.MAX_ENTRIES,) * layout.MAX_EDGES):
+            infos, hops = self.many(*counts)
+            self.assertEqual(combinator.write(self.record(infos, hops)), of_draft(infos, hops))
+            for count in {0, len(hops) - 1, len(hops) + 1, 255}:
+                # There are bytes enough for all of these.
+                self.refused(combinator.write, self.record(infos, hops, hop_count=count) + bytes(255 * layout.HOP.size))
+
+    def test_too_few_bytes(self):
+        for record in (self.record(), self.record(interfaces=bytes(range(4 * layout.INTERFACE_SIZE))), self.record(*self.many(layout.MAX_ENTRIES, 1, 2))):
+            combinator.write(record)
+            for length in range(len(record)):
+                self.refused(combinator.write, record[:length])
+        # Interfaces that are counted and are not there.
+        for count in (1, layout.MAX_INTERFACES, 255):
+            self.refused(combinator.write, self.record(interface_count=count))
+            self.refused(combinator.write, self.record(interface_count=count) + bytes(layout.INTERFACE_SIZE * count - 1))
+            self.assertEqual(combinator.write(self.record(interface_count=count) + bytes(layout.INTERFACE_SIZE * count)), self.BYTES)
+
+    # ---- the reader
+
+    def test_every_bit(self):
+        """Each bit of the bytes turned: those that are reserved or fixed are refused, all others come back."""
+        meta, infos = layout.WIRE_META_SIZE, layout.WIRE_META_SIZE + 2 * layout.WIRE_INFO.size
+        # Current indexes, reserved bits, segment lengths that no longer fit.
+        fixed = set(range(8 * meta))
+        for k in range(2):
+            # Six reserved bits, the first ones, and a reserved byte.
+            start = 8 * (meta + layout.WIRE_INFO.size * k)
+            fixed.update((*range(start, start + 6), *range(start + 8, start + 16)))
+        for k in range(3):
+            start = 8 * (infos + layout.WIRE_HOP.size * k)
+            fixed.update(range(start, start + 8))
+        self.assertEqual(len(fixed), 32 + 2 * 14 + 3 * 8)
+        records = set()
+        for bit in range(8 * len(self.BYTES)):
+            wire = bytearray(self.BYTES)
+            wire[bit // 8] ^= 0x80 >> bit % 8
+            with self.subTest(bit=bit):
+                if bit in fixed:
+                    self.refused(combinator.read, wire)
+                    continue
+                path = combinator.read(wire)
+                self.assertEqual(combinator.write(path), wire)
+                records.add(path.as_bytes())
+        self.assertEqual(len(records), 8 * len(self.BYTES) - len(fixed))
+
+    def test_lengths(self):
+        """Bytes that fit the lengths, by the infos of all that are not 0 or of those before the first that is."""
+        most = layout.MAX_ENTRIES
+        for lengths in ((0, 0, 0), (0, 1, 0), (0, 0, 1), (0, 1, 1), (1, 0, 1), (2, 0, 3), (most, 0, most), (most + 1, 0, 0), (1, most + 1, 0),
+                        (1, 1, most + 1), (most + 1,) * 3, (63, 0, 0), (63, 63, 63)):
+            for infos in range(4):
+                for hops in {sum(lengths), lengths[0], sum(lengths[:2])}:
+                    wire = of_draft([(0, count, 0, 0) for count in lengths], [])[:4] + bytes(layout.WIRE_INFO.size * infos + layout.WIRE_HOP.size * hops)
+                    self.refused(combinator.read, wire)
+
+    def test_length(self):
+        for infos, hops in (self.many(1), self.many(2, 3), self.many(*(layout.MAX_ENTRIES,) * layout.MAX_EDGES)):
+            wire = of_draft(infos, hops)
+            combinator.read(wire)
+            for length in range(len(wire)):
+                self.refused(combinator.read, wire[:length])
+            for more in (1, layout.WIRE_INFO.size, layout.WIRE_HOP.size, 2**17):
+                self.refused(combinator.read, wire + bytes(more))
+        # A path that would be the longest by one hop.
+        self.refused(combinator.read, of_draft(*self.many(layout.MAX_ENTRIES, layout.MAX_ENTRIES, layout.MAX_ENTRIES + 1)))
+
+    # ---- outputs
+
+    def test_room(self):
+        """The output is tested first. It is set to its end, and zero where the call refuses."""
+        for work, least, given, want in ((combinator.write, combinator.WIRE_SIZE, self.record(), self.BYTES),
+                                         (combinator.read, Path.SIZE, self.BYTES, self.record())):
+            for room in (0, 1, least - 1):
+                for given_ in (given, b"", given[:-1]):
+                    self.refused(work, given_, layout.SMALL, room=room)
+            for room in (least, least + 1, 2**17):
+                found = work(given, room=room)
+                self.assertEqual(found.as_bytes() if work is combinator.read else found, want)
+                self.refused(work, given[:-1], room=room)
+            for room in (0, 1, least - 1, least, least + 100):
+                for given_ in (given, given[:-1]):
+                    number = layout.SMALL if room < least else layout.WIRE if given_ is not given else None
+                    self.assertEqual(self.answered(f"combinator_{work.__name__}", given_, room),
+                                     (layout.REFUSED + number, bytes(room)) if number else (len(want), want.ljust(room, b"\0")))
+
+    def test_arguments(self):
+        for work, given in ((combinator.write, self.record()), (combinator.read, self.BYTES)):
+            for made in (bytearray, memoryview):
+                self.assertEqual(work(made(given)), work(given))
+            for wrong in ("path", 8, None, [0] * 8):
+                with self.subTest(given=wrong), self.assertRaises(TypeError):
+                    work(wrong)
+            with self.assertRaises(TypeError):
+                work(given, "room")
+            with self.assertRaises(ValueError):
+                work(given, -1)
 
 
 class Text(unittest.TestCase):

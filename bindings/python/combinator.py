@@ -1,8 +1,9 @@
 """SCION path combination: the proved C library of include/combinator.h, from Python. Standard library only, Python 3.8 or later.
 
 `list` lists every way to join the segments of a book into a path from a source to a destination, the best first. `routes` lists each route once,
-by the solution that lives longest. `assemble` makes the path of one of them. Names are those of the Rust crate; README.md says what differs. Nothing
-is kept between calls but the library itself, which the first call loads. Calls may run at the same time in any threads.
+by the solution that lives longest. `assemble` makes the path of one of them. `write` writes a path as the bytes that routers take, and `read` reads
+such bytes back. Names are those of the Rust crate; README.md says what differs. Nothing is kept between calls but the library itself, which the first
+call loads. Calls may run at the same time in any threads.
 """
 import ctypes
 import ctypes.util
@@ -23,11 +24,12 @@ if REPOSITORY:
     sys.path.append(str(REPOSITORY / "tools"))
 from booktext import isd_as, layout  # noqa: E402
 from booktext.layout import (LIST_SIZE, MAX_BOOK, MAX_EDGES, MAX_ENTRIES, MAX_HOPS, MAX_INTERFACES, MAX_PEERS, MAX_SEGMENTS,  # noqa: E402
-                             MAX_SOLUTIONS, PATH_SIZE, RECORD_SIZE)
+                             MAX_SOLUTIONS, PATH_SIZE, RECORD_SIZE, WIRE_SIZE)
 
 __all__ = ["AsEntry", "Assembled", "Bare", "BookWriter", "HopField", "InfoField", "IsdAsn", "LIST_SIZE", "LibraryNotFound", "Loop", "MAX_BOOK",
            "MAX_EDGES", "MAX_ENTRIES", "MAX_HOPS", "MAX_INTERFACES", "MAX_PEERS", "MAX_SEGMENTS", "MAX_SOLUTIONS", "NoPath", "ParseError", "Path",
-           "PathInterface", "PeerEntry", "Refusal", "Segment", "Solution", "SolutionEdge", "Solutions", "assemble", "list", "load", "routes"]
+           "PathInterface", "PeerEntry", "Refusal", "Segment", "Solution", "SolutionEdge", "Solutions", "WIRE_SIZE", "assemble", "list", "load", "read",
+           "routes", "write"]
 
 Buffer = Union[bytes, bytearray, memoryview]
 
@@ -83,9 +85,10 @@ MEANINGS: Dict[int, str] = {
     layout.PEERS: f"an entry has more than {MAX_PEERS} peers",
     layout.MISFIT: "body lengths do not sum to the total, or a body is not filled exactly",
     layout.FULL: "there are more solutions than slots",
-    layout.SMALL: f"the output is under {PATH_SIZE} bytes",
+    layout.SMALL: f"the output is under {PATH_SIZE} bytes, or under {WIRE_SIZE} for the wire",
     layout.STRANGER: "no solution of this book, source and destination",
     layout.TWICE: "an entry's AS stands earlier in the same segment",
+    layout.WIRE: "the path has no form on the wire, or no path has these bytes",
 }
 
 
@@ -122,13 +125,13 @@ def _bytes(given: Buffer) -> bytes:
     return given if type(given) is bytes else bytes(memoryview(given))
 
 
-def _read(given: Buffer) -> Tuple[bytes, int]:
+def _lent(given: Buffer) -> Tuple[bytes, int]:
     data = _bytes(given)
     return data, len(data)
 
 
 AS = Kind((ctypes.c_uint64,), lambda number: (IsdAsn(number),))
-BYTES = Kind((ctypes.c_char_p, ctypes.c_size_t), _read)
+BYTES = Kind((ctypes.c_char_p, ctypes.c_size_t), _lent)
 OUT = Kind((ctypes.c_void_p, ctypes.c_size_t), lambda room: (room, len(room)))
 
 # Every function of the header, by its parameters. Each answers a number of 32 bits.
@@ -136,6 +139,8 @@ FUNCTIONS: Dict[str, Tuple[Kind, ...]] = {
     "combinator_list": (AS, AS, BYTES, OUT),
     "combinator_routes": (AS, AS, BYTES, OUT),
     "combinator_assemble": (AS, AS, BYTES, BYTES, OUT),
+    "combinator_write": (BYTES, OUT),
+    "combinator_read": (BYTES, OUT),
 }
 
 NAME = "libcombinator.so"
@@ -319,7 +324,7 @@ class PathInterface(NamedTuple):
 
 
 class Path(Record):
-    """A path as `assemble` laid it out."""
+    """A path as `assemble` or `read` laid it out."""
     __slots__ = ("_head",)
     SIZE: int = PATH_SIZE
 
@@ -435,6 +440,29 @@ def assemble(src: int, dst: int, book: Buffer, solution: Union[Solution, Buffer]
     out = _room(room)
     answer = _call("combinator_assemble", src, dst, book, record, out)
     return Path(out.raw) if answer == layout.PATH else NoPath(answer)
+
+
+def write(path: Union[Path, Buffer], room: int = WIRE_SIZE) -> bytes:
+    """A path as the bytes that routers take: the standard path of the SCION data plane, with both current indexes 0.
+
+    Its infos and hops are written. Of other bytes than a path's those are refused (Wire) that have no form on the wire, or whose counts, of interfaces
+    too, need more bytes than there are; bytes after a path make no difference. `room` is the bytes of the output.
+    """
+    record = path.as_bytes() if isinstance(path, Path) else path
+    out = _room(room)
+    length = _call("combinator_write", record, out)
+    return out.raw[:length]
+
+
+def read(wire: Buffer, room: int = PATH_SIZE) -> Path:
+    """The path of such bytes, of which infos and hops alone are known: it has no interfaces, and its other numbers are 0.
+
+    Bytes that `write` can not have written are refused (Wire); those of a packet on its way are, since its current indexes have moved. `room` is the
+    bytes of the output.
+    """
+    out = _room(room)
+    length = _call("combinator_read", wire, out)
+    return Path(out.raw[:length])
 
 
 # ---- books

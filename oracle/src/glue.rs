@@ -1,11 +1,12 @@
 //! The code of bindings/rust/README.md between scion-sdk and the library's crate, run on books: `to_book`
-//! writes the bytes that were read, `after` answers the paths of the Rust, and `before`, which is `combine`,
-//! those that are left of them without duplicates.
+//! writes the bytes that were read, `after` answers the paths of the Rust, with the bytes of the wire that
+//! the Rust encodes, and `before`, which is `combine`, those that are left of them without duplicates.
 
 use std::{collections::BTreeMap, fmt};
 
 use crate::{
     book,
+    dataplane_path::view::ScionDpPathViewExt,
     path::combinator::graph::{InputSegment, MultiGraph, number_of_hops},
     run::{BARE, Came, path_of, split},
 };
@@ -91,7 +92,10 @@ fn hold_paths<E: Entry>(
     let (mut want, mut bare) = (Vec::new(), false);
     for solution in graph.get_paths(source, destination) {
         match path_of(&solution) {
-            Came::Path(path) => want.push(path),
+            Came::Path(path) => {
+                hold_wire(case, path.dp_path().as_slice());
+                want.push(path);
+            }
             Came::Loop => {}
             Came::Panic(m) if m == BARE => bare = true,
             Came::Panic(_) | Came::Refused => panic!("{case}: no answer of the Rust"),
@@ -99,6 +103,13 @@ fn hold_paths<E: Entry>(
     }
     assert!(sorted(paths.to_vec()) == sorted(want), "{case}: other paths");
     bare
+}
+
+/// Bytes that the Rust encoded are read, and are written again.
+fn hold_wire(case: &str, bytes: &[u8]) {
+    let mut room = [0; Path::SIZE];
+    let path = combinator::read(bytes, &mut room).unwrap_or_else(|refusal| panic!("{case}: {refusal}"));
+    assert!(path.encode_to_vec() == bytes, "{case}: what is read is written otherwise");
 }
 
 /// Of paths with the same fingerprint `combine` has one, which lives longest.

@@ -10,7 +10,14 @@ use std::{
 
 use crate::{
     book::{self, Book},
-    dataplane_path::view::ScionDpPathView,
+    core::{convert::FromView, encode::WireEncode, view::View},
+    dataplane_path::{
+        standard::{
+            model::StandardPath,
+            view::{HopFieldView, InfoFieldView, StandardPathView},
+        },
+        view::ScionDpPathView,
+    },
     identifier::isd_asn::IsdAsn,
     path::{
         ScionPath,
@@ -68,18 +75,40 @@ fn inputs<const T: bool>(book: &Book<T>) -> Vec<InputSegment<'_, Own<T>>> {
         .collect()
 }
 
-fn print_path(out: &mut String, path: &ScionPath, flags: Flags) -> Vec<u8> {
-    let meta = path.metadata().expect("path() gives metadata");
+fn print_hex(out: &mut String, bytes: &[u8]) {
+    for b in bytes {
+        for digit in [b >> 4, b & 15] {
+            out.push(b"0123456789abcdef"[digit as usize] as char);
+        }
+    }
+}
+
+fn print_info(out: &mut String, info: &InfoFieldView) {
+    write!(out, "info {} {:04x} {}", info.flags().bits(), info.segment_id(), info.timestamp()).unwrap();
+}
+
+fn print_hop(out: &mut String, hop: &HopFieldView) {
+    write!(out, "{} {} {} ", hop.exp_time(), hop.cons_ingress(), hop.cons_egress()).unwrap();
+    print_hex(out, &hop.mac().0);
+    out.push('\n');
+}
+
+/// The view of the bytes that `path()` had of `try_encode_to_vec`.
+fn standard(path: &ScionPath) -> &StandardPathView {
     let ScionDpPathView::Standard(view) = path.dp_path() else {
         panic!("path() gives a standard path")
     };
+    view
+}
+
+fn print_path(out: &mut String, path: &ScionPath, flags: Flags) -> Vec<u8> {
+    let meta = path.metadata().expect("path() gives metadata");
+    let view = standard(path);
     assert!(path.expiration() == Some(meta.expiration as u32));
     write!(out, "path mtu {} expiry {}", meta.mtu, meta.expiration).unwrap();
     if flags.combine {
         out.push_str(" key ");
-        for b in &path.fingerprint().as_ref()[..8] {
-            write!(out, "{b:02x}").unwrap();
-        }
+        print_hex(out, &path.fingerprint().as_ref()[..8]);
     }
     out.push('\n');
     let mut directions = Vec::new();
@@ -87,23 +116,13 @@ fn print_path(out: &mut String, path: &ScionPath, flags: Flags) -> Vec<u8> {
     for (info, h) in view.segments() {
         directions.push(info.flags().bits());
         hops += h.len();
-        writeln!(
-            out,
-            "info {} {:04x} {} {}",
-            info.flags().bits(),
-            info.segment_id(),
-            info.timestamp(),
-            h.len()
-        )
-        .unwrap();
+        print_info(out, info);
+        writeln!(out, " {}", h.len()).unwrap();
     }
     assert!(hops == view.hop_fields().len() && directions.len() == view.info_fields().len());
     for h in view.hop_fields() {
-        write!(out, "hop {} {} {} ", h.exp_time(), h.cons_ingress(), h.cons_egress()).unwrap();
-        for b in h.mac().0 {
-            write!(out, "{b:02x}").unwrap();
-        }
-        out.push('\n');
+        out.push_str("hop ");
+        print_hop(out, h);
         assert!(h.flags().bits() == 0);
     }
     let interfaces = meta.interfaces.as_ref().expect("path() gives interfaces");
@@ -112,7 +131,46 @@ fn print_path(out: &mut String, path: &ScionPath, flags: Flags) -> Vec<u8> {
     }
     assert!(path.src_ia() == interfaces[0].interface.isd_asn);
     assert!(path.dst_ia() == interfaces[interfaces.len() - 1].interface.isd_asn);
+    assert!(view.curr_info_field_idx() == 0 && view.curr_hop_field_idx() == 0);
+    let encoded = StandardPath::from_view(view).try_encode_to_vec().expect("what was encoded can be encoded");
+    assert!(encoded == view.as_slice(), "what is read of the bytes gives other bytes");
+    out.push_str("wire ");
+    print_hex(out, &encoded);
+    out.push('\n');
     directions
+}
+
+/// What the source makes of bytes of the wire: the view of them, and whether its encoder gives them back.
+fn print_view(out: &mut String, bytes: &[u8]) {
+    let Ok((view, rest)) = StandardPathView::try_from_slice(bytes) else {
+        out.push_str("refused\n");
+        return;
+    };
+    writeln!(
+        out,
+        "view {} {} {} {} {} {}",
+        rest.len(),
+        view.curr_info_field_idx(),
+        view.curr_hop_field_idx(),
+        view.seg0_len(),
+        view.seg1_len(),
+        view.seg2_len()
+    )
+    .unwrap();
+    for info in view.info_fields() {
+        print_info(out, info);
+        out.push('\n');
+    }
+    for hop in view.hop_fields() {
+        write!(out, "hop {} ", hop.flags().bits()).unwrap();
+        print_hop(out, hop);
+    }
+    let encoded = match StandardPath::from_view(view).try_encode_to_vec() {
+        Ok(again) if again == view.as_slice() => "same",
+        Ok(_) => "other",
+        Err(_) => "refused",
+    };
+    writeln!(out, "encoded {encoded}").unwrap();
 }
 
 /// What `combine` answers, after the solutions.
@@ -189,9 +247,7 @@ fn block(out: &mut String, case: &[u8], flags: Flags) {
                 None => out.push('-'),
             }
             write!(out, " {direction} ").unwrap();
-            for b in &e.fp[..4] {
-                write!(out, "{b:02x}").unwrap();
-            }
+            print_hex(out, &e.fp[..4]);
             out.push('\n');
         }
         match path_of(s) {
@@ -235,6 +291,7 @@ struct Times {
     search: u128,
     paths: u128,
     fingerprints: u128,
+    encode: u128,
     combine: u128,
     solutions: u64,
     with_path: u64,
@@ -278,13 +335,23 @@ fn bench_one(case: &[u8], t: &mut Times) {
     }
     std::hint::black_box(sum);
     t.fingerprints += t3.elapsed().as_nanos();
+    // What of it `path` spent on `try_encode_to_vec`: done once more.
+    let models: Vec<StandardPath> = paths
+        .iter()
+        .filter_map(|p| if let Came::Path(p) = p { Some(StandardPath::from_view(standard(p))) } else { None })
+        .collect();
+    let mut encoded = Vec::with_capacity(models.len());
+    let t4 = Instant::now();
+    encoded.extend(models.iter().map(|m| m.try_encode_to_vec()));
+    t.encode += t4.elapsed().as_nanos();
+    std::hint::black_box(encoded);
     // `combine` whole, from segments that nothing is known of yet.
     let Ok(book) = book::decode::<false>(bytes, false, false) else {
         return;
     };
-    let t4 = Instant::now();
+    let t5 = Instant::now();
     let routes = combined(source, destination, &book);
-    t.combine += t4.elapsed().as_nanos();
+    t.combine += t5.elapsed().as_nanos();
     std::hint::black_box(routes);
     t.solutions += solutions.len() as u64;
     t.with_path += paths.iter().filter(|p| matches!(p, Came::Path(_))).count() as u64;
@@ -292,13 +359,14 @@ fn bench_one(case: &[u8], t: &mut Times) {
 
 fn show(label: &str, t: &Times) {
     println!(
-        "{label} solutions {} paths {} decode_ns {} a_ns {} b_ns {} fingerprints_ns {} combine_ns {}",
+        "{label} solutions {} paths {} decode_ns {} a_ns {} b_ns {} fingerprints_ns {} encode_ns {} combine_ns {}",
         t.solutions,
         t.with_path,
         t.decode,
         t.search,
         t.search + t.paths,
         t.fingerprints,
+        t.encode,
         t.combine
     );
 }
@@ -319,6 +387,7 @@ fn bench(file: &str, n: u64, each: bool) {
         all.search += t.search;
         all.paths += t.paths;
         all.fingerprints += t.fingerprints;
+        all.encode += t.encode;
         all.combine += t.combine;
         all.solutions += t.solutions;
         all.with_path += t.with_path;
@@ -389,6 +458,18 @@ pub fn main() {
                 say(&out);
             }
         }
+        ["--wire", file] => {
+            let bytes = std::fs::read(file).expect("the batch file is readable");
+            let mut out = String::new();
+            for case in cases(&bytes) {
+                // The bytes stand in the place of a book.
+                let (_, _, wire) = split(case).expect("a case has two ends");
+                out.clear();
+                print_view(&mut out, wire);
+                out.push_str("---\n");
+                say(&out);
+            }
+        }
         ["--bench", file, n] => bench(file, n.parse().expect("a number"), each),
         #[cfg(feature = "glue")]
         ["--glue", file] => {
@@ -400,6 +481,7 @@ pub fn main() {
             eprintln!(
                 "oracle [--no-wrapper] [--numbers] [--combine] [--repeats] < CASE\n\
                  oracle --batch [FILE] [--no-wrapper] [--numbers] [--combine] [--repeats]\n\
+                 oracle --wire FILE\n\
                  oracle --bench FILE N [--each]\n\
                  oracle --glue FILE, with the feature glue\n\
                  oracle --given"

@@ -1,13 +1,13 @@
 /* fuzz SEED COUNT|SECONDSs [FIRST] [--undefined]
  *
  * First a fixed sweep: every length near each boundary, an AS twice at every two entries, every output length near a slot's end, every byte
- * of a record changed to every value, the dearest books. Then COUNT turns, or as many as SECONDS allow. A turn draws its choices from SEED and
- * its own number alone, so that FIRST (with COUNT 1) runs one turn again. Of the listings of either a part must be refused for an AS that stands
- * twice in a segment, and a part must be accepted.
+ * of a record changed to every value, the dearest books; paths and wires likewise (fuzz_wire.c). Then COUNT turns, or as many as SECONDS allow.
+ * A turn draws its choices from SEED and its own number alone, so that FIRST (with COUNT 1) runs one turn again. Of the listings of either a part
+ * must be refused for an AS that stands twice in a segment, and a part must be accepted.
  *
  * Every call is held to the model in all of its output and in its answer. Its buffers have guard bytes on both sides and
  * stand against a page that cannot be touched, at the one end or the other, or in a block of the heap of their exact
- * size, for AddressSanitizer and valgrind; the book and the record must be left as they were. --undefined leaves the
+ * size, for AddressSanitizer and valgrind; what a call reads must be left as it was. --undefined leaves the
  * outputs in the heap unset, so that valgrind sees a use of what they held. */
 #include <inttypes.h>
 #include <signal.h>
@@ -19,12 +19,10 @@
 #include "build.h"
 #include "combinator.h"
 #include "common.h"
+#include "fuzz.h"
 #include "model.h"
 
-/* Room for books, records and outputs past their limits; guard bytes; how many records of a list are used again. */
-#define MAX_BOOK (COMBINATOR_MAX_BOOK + 20000)
-#define MAX_RECORD (4 * COMBINATOR_RECORD_SIZE)
-#define MAX_OUT (2 * COMBINATOR_LIST_SIZE + 10000)
+/* Guard bytes; how many records of a list are used again. */
 #define GUARD 64
 #define LISTED 64
 
@@ -35,7 +33,7 @@
 
 static uint64_t state;
 
-static uint64_t draw(void)
+uint64_t draw(void)
 {
     uint64_t z = state += UINT64_C(0x9e3779b97f4a7c15);
     z = (z ^ z >> 30) * UINT64_C(0xbf58476d1ce4e5b9);
@@ -43,13 +41,12 @@ static uint64_t draw(void)
     return z ^ z >> 31;
 }
 
-/* Below n. */
-static unsigned pick(unsigned n)
+unsigned pick(unsigned n)
 {
     return (unsigned)(draw() % n);
 }
 
-static int one_in(unsigned n)
+int one_in(unsigned n)
 {
     return pick(n) == 0;
 }
@@ -64,7 +61,7 @@ struct area {
     uint8_t *heap;
 };
 
-static struct area book_area, record_area, out_area;
+static struct area book_area, record_area, given_area, out_area;
 static int undefined;
 
 static void make_area(struct area *a, size_t room)
@@ -116,25 +113,17 @@ static int guards_hold(const uint8_t *p, enum where where, size_t len)
 
 /* ---- one call, held to the model */
 
-static struct {
-    uint64_t turn; /* 0: the sweep */
-    const char *kind;
-    uint64_t src, dst;
-    uint8_t book[MAX_BOOK];
-    size_t book_len;
-    uint8_t record[MAX_RECORD];
-    size_t record_len;
-} now;
+struct now now;
 
 struct longest {
     uint64_t ns, turn, calls;
-    size_t book_len;
+    size_t len;
     uint32_t answer;
 };
 
-enum kind { LISTING, ROUTES, ASSEMBLY, KINDS };
-
-static const char *const call_name[KINDS] = {"listing", "routes", "assembly"};
+/* The calls, and what they are about. */
+static const char *const call_name[KINDS] = {"listing", "routes", "assembly", "writing", "reading"};
+static const char *const given_name[KINDS] = {"book", "book", "book", "path", "wire"};
 static struct longest longest[KINDS];
 static uint64_t refused[COMBINATOR_LAST_REFUSAL + 1], routes, paths, loops, bares;
 static uint64_t listings, accepted, twice; /* of the sweep, then of the turns */
@@ -148,13 +137,22 @@ static void print_bytes(const char *name, const uint8_t *p, size_t n)
     fputc('\n', stderr);
 }
 
-static void wrong(const char *call, const char *what, size_t out_len, uint32_t answer, uint32_t want)
+static int takes_book(enum kind kind)
 {
-    fprintf(stderr, "turn %" PRIu64 " (%s): %s: %s; answer %" PRIu32 ", the model's %" PRIu32 ", output of %zu bytes\n", now.turn, now.kind, call,
-            what, answer, want, out_len);
-    fprintf(stderr, "source %016" PRIx64 " destination %016" PRIx64 "\n", now.src, now.dst);
-    print_bytes("record", now.record, now.record_len);
-    print_bytes("book", now.book, now.book_len);
+    return kind == LISTING || kind == ROUTES || kind == ASSEMBLY;
+}
+
+void wrong(enum kind kind, const char *what, size_t out_len, uint32_t answer, uint32_t want)
+{
+    fprintf(stderr, "turn %" PRIu64 " (%s): %s: %s; answer %" PRIu32 ", the model's %" PRIu32 ", output of %zu bytes\n", now.turn, now.kind,
+            call_name[kind], what, answer, want, out_len);
+    if (takes_book(kind)) {
+        fprintf(stderr, "source %016" PRIx64 " destination %016" PRIx64 "\n", now.src, now.dst);
+        print_bytes("record", now.record, now.record_len);
+        print_bytes("book", now.book, now.book_len);
+    } else {
+        print_bytes(given_name[kind], now.given, now.given_len);
+    }
     exit(1);
 }
 
@@ -162,8 +160,8 @@ static void wrong(const char *call, const char *what, size_t out_len, uint32_t a
 static void fault(int signal_number)
 {
     signal(signal_number, SIG_DFL);
-    fprintf(stderr, "turn %" PRIu64 " (%s): signal %d, book of %zu bytes, record of %zu\n", now.turn, now.kind, signal_number, now.book_len,
-            now.record_len);
+    fprintf(stderr, "turn %" PRIu64 " (%s): signal %d, book of %zu bytes, record of %zu, path or wire of %zu\n", now.turn, now.kind, signal_number,
+            now.book_len, now.record_len, now.given_len);
     raise(signal_number);
 }
 
@@ -175,7 +173,7 @@ static uint8_t expected[MAX_OUT];
 
 struct call {
     enum kind kind;
-    const uint8_t *book, *record;
+    const uint8_t *book, *record, *given;
     uint8_t *out;
     size_t out_len;
 };
@@ -190,6 +188,12 @@ static uint32_t timed(const struct call *c, uint64_t *ns)
         break;
     case ROUTES:
         answer = combinator_routes(now.src, now.dst, c->book, now.book_len, c->out, c->out_len);
+        break;
+    case WRITING:
+        answer = combinator_write(c->given, now.given_len, c->out, c->out_len);
+        break;
+    case READING:
+        answer = combinator_read(c->given, now.given_len, c->out, c->out_len);
         break;
     default:
         answer = combinator_assemble(now.src, now.dst, c->book, now.book_len, c->record, now.record_len, c->out, c->out_len);
@@ -206,6 +210,10 @@ static uint32_t wanted(enum kind kind, size_t out_len)
         return model_list(now.src, now.dst, now.book, now.book_len, expected, out_len);
     case ROUTES:
         return model_routes(now.src, now.dst, now.book, now.book_len, expected, out_len);
+    case WRITING:
+        return model_write(now.given, now.given_len, expected, out_len);
+    case READING:
+        return model_read(now.given, now.given_len, expected, out_len);
     default:
         return model_assemble(now.src, now.dst, now.book, now.book_len, now.record, now.record_len, expected, out_len);
     }
@@ -223,53 +231,74 @@ static uint64_t least(const struct call *c, uint64_t ns)
     return ns;
 }
 
-/* Listing, routes, or assembly of now.record. The output that came is at the returned place until the next call. */
-static const uint8_t *check(enum kind kind, size_t out_len, uint32_t *answered)
+/* What a call may read: a copy of these bytes, at a place that was drawn; and what is said where it was written. */
+struct lent {
+    const char *fault;
+    const uint8_t *bytes;
+    size_t len;
+    enum where where;
+    uint8_t *copy;
+};
+
+static const uint8_t *lend(struct lent *l, const char *fault, struct area *area, const uint8_t *bytes, size_t len)
 {
-    enum where book_at = (enum where)pick(PLACES), record_at = (enum where)pick(PLACES), out_at = (enum where)pick(PLACES);
-    uint8_t *book = place(&book_area, book_at, now.book_len), *record = place(&record_area, record_at, now.record_len);
-    uint8_t *out = place(&out_area, out_at, out_len);
-    const char *call = call_name[kind];
+    l->fault = fault;
+    l->bytes = bytes;
+    l->len = len;
+    l->where = (enum where)pick(PLACES);
+    l->copy = place(area, l->where, len);
+    if (len)
+        memcpy(l->copy, bytes, len);
+    return l->copy;
+}
+
+const uint8_t *check(enum kind kind, size_t out_len, uint32_t *answered)
+{
+    enum where out_at = (enum where)pick(PLACES);
+    struct lent lent[2];
+    unsigned lents = 0, k;
     struct longest *most = &longest[kind];
-    struct call it = {kind, book, record, out, out_len};
+    struct call it = {kind, NULL, NULL, NULL, NULL, out_len};
+    uint8_t *out = it.out = place(&out_area, out_at, out_len);
     uint32_t answer, want;
     uint64_t ns;
     size_t i;
 
-    if (now.book_len)
-        memcpy(book, now.book, now.book_len);
-    if (now.record_len)
-        memcpy(record, now.record, now.record_len);
+    if (takes_book(kind)) {
+        it.book = lend(&lent[lents++], "the book, or bytes beside it, were written", &book_area, now.book, now.book_len);
+        it.record = lend(&lent[lents++], "the record, or bytes beside it, were written", &record_area, now.record, now.record_len);
+    } else {
+        it.given = lend(&lent[lents++], "what was given, or bytes beside it, were written", &given_area, now.given, now.given_len);
+    }
     if (!(undefined && out_at == IN_HEAP))
         memset(out, (int)pick(256), out_len);
     want = wanted(kind, out_len);
     answer = timed(&it, &ns);
 
     if (!guards_hold(out, out_at, out_len))
-        wrong(call, "bytes beside the output were written", out_len, answer, want);
-    if (!guards_hold(book, book_at, now.book_len) || memcmp(book, now.book, now.book_len))
-        wrong(call, "the book, or bytes beside it, were written", out_len, answer, want);
-    if (!guards_hold(record, record_at, now.record_len) || memcmp(record, now.record, now.record_len))
-        wrong(call, "the record, or bytes beside it, were written", out_len, answer, want);
+        wrong(kind, "bytes beside the output were written", out_len, answer, want);
+    for (k = 0; k < lents; k++)
+        if (!guards_hold(lent[k].copy, lent[k].where, lent[k].len) || memcmp(lent[k].copy, lent[k].bytes, lent[k].len))
+            wrong(kind, lent[k].fault, out_len, answer, want);
     if (COMBINATOR_IS_REFUSAL(answer))
         for (i = 0; i < out_len; i++)
             if (out[i])
-                wrong(call, "the output is not zero after a refusal", out_len, answer, want);
+                wrong(kind, "the output is not zero after a refusal", out_len, answer, want);
     if (answer != want)
-        wrong(call, "another answer", out_len, answer, want);
+        wrong(kind, "another answer", out_len, answer, want);
     if (out_len && memcmp(out, expected, out_len))
-        wrong(call, "another output", out_len, answer, want);
+        wrong(kind, "another output", out_len, answer, want);
 
     most->calls++;
     if (ns > most->ns)
         ns = least(&it, ns);
     /* Not under valgrind, which makes all slower. */
-    if (!undefined && ns > (kind == ASSEMBLY ? COMBINATOR_ASSEMBLE_NS : COMBINATOR_LIST_NS))
-        wrong(call, "longer than stated", out_len, answer, want);
+    if (!undefined && ns > (kind == LISTING || kind == ROUTES ? COMBINATOR_LIST_NS : COMBINATOR_ASSEMBLE_NS))
+        wrong(kind, "longer than stated", out_len, answer, want);
     if (ns > most->ns) {
         most->ns = ns;
         most->turn = now.turn;
-        most->book_len = now.book_len;
+        most->len = takes_book(kind) ? now.book_len : now.given_len;
         most->answer = answer;
     }
     if (COMBINATOR_IS_REFUSAL(answer))
@@ -295,7 +324,7 @@ static const uint8_t *check(enum kind kind, size_t out_len, uint32_t *answered)
         c.book_len = now.book_len;
         disagrees = router_fault(&c, now.record, out);
         if (disagrees)
-            wrong(call, disagrees, out_len, answer, want);
+            wrong(kind, disagrees, out_len, answer, want);
     }
     if (answered)
         *answered = answer;
@@ -312,13 +341,18 @@ static uint32_t check_list(size_t out_len)
     return answer;
 }
 
+static uint8_t left[COMBINATOR_PATH_SIZE]; /* the path that assembly left last */
+
 static uint32_t check_record(const uint8_t *record, size_t record_len, size_t out_len)
 {
+    const uint8_t *out;
     uint32_t answer;
     if (record_len)
         memmove(now.record, record, record_len);
     now.record_len = record_len;
-    check(ASSEMBLY, out_len, &answer);
+    out = check(ASSEMBLY, out_len, &answer);
+    if (answer == COMBINATOR_PATH)
+        memcpy(left, out, sizeof left);
     return answer;
 }
 
@@ -724,7 +758,7 @@ static size_t some_out_len(size_t count)
 
 static uint8_t listed[SLOTS(LISTED)];
 
-/* Lists the book, assembles its solutions, and asks for records that are none. */
+/* Lists the book, assembles its solutions and writes their paths, and asks for records that are none. */
 static void use_book(unsigned records)
 {
     uint32_t answer;
@@ -738,7 +772,8 @@ static void use_book(unsigned records)
     memcpy(listed, out, SLOTS(n));
     check_list(some_out_len(COMBINATOR_IS_REFUSAL(answer) ? 0 : answer));
     for (i = 0; i < n && i < records; i++)
-        check_record(listed + SLOTS(i), SLOTS(1), one_in(4) ? COMBINATOR_PATH_SIZE + pick(40) : COMBINATOR_PATH_SIZE);
+        if (check_record(listed + SLOTS(i), SLOTS(1), one_in(4) ? COMBINATOR_PATH_SIZE + pick(40) : COMBINATOR_PATH_SIZE) == COMBINATOR_PATH)
+            use_path(left);
     /* Too small an output, another length of record, another record. */
     check_record(listed, n ? SLOTS(1) : pick(SLOTS(1) + 1), one_in(2) ? COMBINATOR_PATH_SIZE - 1 : pick(COMBINATOR_PATH_SIZE));
     check_record(listed, pick(SLOTS(2) + 8), one_in(2) ? COMBINATOR_PATH_SIZE : COMBINATOR_PATH_SIZE - pick(3));
@@ -770,7 +805,7 @@ static void turn(uint64_t seed, uint64_t number_of_turn)
     state = seed * UINT64_C(0xd1342543de82ef95) + number_of_turn;
     draw();
     now.turn = number_of_turn;
-    switch (pick(14)) {
+    switch (pick(16)) {
     case 0:
         now.kind = "random bytes";
         random_bytes();
@@ -800,6 +835,12 @@ static void turn(uint64_t seed, uint64_t number_of_turn)
         if (one_in(3))
             damage_body();
         use_book(1);
+        break;
+    case 14:
+        turn_path();
+        break;
+    case 15:
+        turn_wire();
         break;
     case 5:
         now.kind = "bytes changed";
@@ -1157,21 +1198,24 @@ static void sweep(void)
     sweep_outputs();
     sweep_dear();
     sweep_records();
+    sweep_wire();
 }
 
-static void report(const char *call, const struct longest *l)
+static void report(enum kind kind)
 {
-    printf("%s: %" PRIu64 " calls, the longest %.3f ms (turn %" PRIu64 ", book of %zu bytes, answer %" PRIu32 ")\n", call, l->calls,
-           (double)l->ns / 1e6, l->turn, l->book_len, l->answer);
+    const struct longest *l = &longest[kind];
+    printf("%s: %" PRIu64 " calls, the longest %.3f ms (turn %" PRIu64 ", %s of %zu bytes, answer %" PRIu32 ")\n", call_name[kind], l->calls,
+           (double)l->ns / 1e6, l->turn, given_name[kind], l->len, l->answer);
 }
 
-/* The books are neither without an AS that stands twice nor nearly all with one. */
+/* The books are neither without an AS that stands twice nor nearly all with one; paths and wires are of every kind. */
 static void shares(const char *what)
 {
     printf("%s: %" PRIu64 " listings, %" PRIu64 " accepted, %" PRIu64 " refused since an AS stands twice\n", what, listings, accepted, twice);
     if (accepted < listings / 4 || twice < listings / 40 || twice > listings / 2)
         fail("%s: too few or too many of these", what);
     listings = accepted = twice = 0;
+    report_wire(what);
 }
 
 int fuzz_mode(int args, char **arg)
@@ -1192,6 +1236,7 @@ int fuzz_mode(int args, char **arg)
     signal(SIGBUS, fault);
     make_area(&book_area, MAX_BOOK);
     make_area(&record_area, MAX_RECORD);
+    make_area(&given_area, MAX_GIVEN);
     make_area(&out_area, MAX_OUT);
     if (args == 3)
         first = strtoull(arg[2], NULL, 10);
@@ -1211,7 +1256,7 @@ int fuzz_mode(int args, char **arg)
     if (turns >= 1000)
         shares("the turns");
     for (i = 0; i < KINDS; i++)
-        report(call_name[i], &longest[i]);
+        report((enum kind)i);
     printf("%" PRIu64 " routes; assembly gave %" PRIu64 " paths, %" PRIu64 " loop, %" PRIu64 " bare; refusals", routes, paths, loops, bares);
     for (i = 1; i <= COMBINATOR_LAST_REFUSAL; i++)
         printf(" %u: %" PRIu64, i, refused[i]);

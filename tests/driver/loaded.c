@@ -44,3 +44,17 @@ uint32_t combinator_assemble(uint64_t src, uint64_t dst, const uint8_t *book, si
     load("combinator_assemble", &assemble, sizeof assemble);
     return assemble(src, dst, book, book_len, record, record_len, out, out_len);
 }
+
+uint32_t combinator_write(const uint8_t *path, size_t path_len, uint8_t *out, size_t out_len)
+{
+    uint32_t (*write)(const uint8_t *, size_t, uint8_t *, size_t);
+    load("combinator_write", &write, sizeof write);
+    return write(path, path_len, out, out_len);
+}
+
+uint32_t combinator_read(const uint8_t *wire, size_t wire_len, uint8_t *out, size_t out_len)
+{
+    uint32_t (*read)(const uint8_t *, size_t, uint8_t *, size_t);
+    load("combinator_read", &read, sizeof read);
+    return read(wire, wire_len, out, out_len);
+}

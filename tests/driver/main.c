@@ -16,8 +16,8 @@ int main(int argc, char **argv)
     for (i = 0; argc > 1 && i < sizeof modes / sizeof *modes; i++)
         if (!strcmp(argv[1], modes[i].name))
             return modes[i].run(argc - 2, argv + 2);
-    usage("driver batch FILE                                 answers as text, for oracle/compare.py\n"
-          "driver replay ANSWERS REFUSALS ROUTES             against stored answers\n"
+    usage("driver batch [--wire] FILE                        answers as text, for oracle/compare.py\n"
+          "driver replay ANSWERS REFUSALS ROUTES WIRE        against stored answers\n"
           "driver fuzz SEED COUNT|SECONDSs [FIRST] [--undefined]\n"
           "driver bench FILE OUT_LEN                         times of each case\n"
           "driver scale                                      time against size\n"

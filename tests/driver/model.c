@@ -726,3 +726,204 @@ uint32_t model_routes(uint64_t src, uint64_t dst, const uint8_t *book, size_t bo
         memcpy(out + COMBINATOR_RECORD_SIZE * i, m.record + COMBINATOR_RECORD_SIZE * m.route[i].chain, COMBINATOR_RECORD_SIZE);
     return (uint32_t)m.routes;
 }
+
+/* ---- paths on the wire: docs/SPECIFICATION.md 15, field after field, each of so many bits */
+
+#define CURRENT_INFO_BITS 2
+#define CURRENT_HOP_BITS 6
+#define META_RESERVED_BITS 6
+#define LENGTH_BITS 6
+#define FLAGS_RESERVED_BITS 6 /* of an info and of a hop; two flags follow */
+#define FLAG_BITS 1
+#define INFO_RESERVED_BYTE_BITS 8
+#define ID_BITS 16
+#define TIMESTAMP_BITS 32
+#define UNITS_BITS 8
+#define INTERFACE_BITS 16
+#define MAC_BITS (8 * COMBINATOR_MAC_SIZE)
+
+/* The next bits from bit *at on, the highest of each byte first. */
+static uint64_t take_bits(const uint8_t *bytes, size_t *at, unsigned count)
+{
+    uint64_t n = 0;
+    for (; count > 0; count--, ++*at)
+        n = n << 1 | (bytes[*at / 8] >> (7 - *at % 8) & 1u);
+    return n;
+}
+
+/* Into bytes that are zero. */
+static void put_bits(uint8_t *bytes, size_t *at, unsigned count, uint64_t n)
+{
+    for (; count > 0; count--, ++*at)
+        bytes[*at / 8] |= (uint8_t)((n >> (count - 1) & 1u) << (7 - *at % 8));
+}
+
+unsigned model_path_faults(const uint8_t *path, size_t path_len)
+{
+    unsigned infos, hops, interfaces, sum = 0, faults = 0, i;
+    size_t need = COMBINATOR_PATH_HEAD_SIZE;
+    if (path_len < need)
+        return 1u << CUT_HEAD;
+    infos = path[COMBINATOR_PATH_INFO_COUNT];
+    hops = path[COMBINATOR_PATH_HOP_COUNT];
+    interfaces = path[COMBINATOR_PATH_INTERFACE_COUNT];
+    if (infos == 0)
+        faults |= 1u << NO_INFO;
+    if (infos > COMBINATOR_MAX_EDGES)
+        faults |= 1u << MANY_INFOS;
+    if (path_len < (need += COMBINATOR_INFO_SIZE * infos))
+        return faults | 1u << CUT_INFOS;
+    for (i = 0; i < infos; i++) {
+        const uint8_t *info = path_infos(path) + COMBINATOR_INFO_SIZE * i;
+        if (info[COMBINATOR_INFO_FLAGS] > COMBINATOR_CONSTRUCTION + COMBINATOR_PEERING)
+            faults |= 1u << INFO_FLAGS;
+        if (info[COMBINATOR_INFO_HOP_COUNT] == 0)
+            faults |= 1u << NO_HOP_OF_INFO;
+        if (info[COMBINATOR_INFO_HOP_COUNT] > COMBINATOR_MAX_ENTRIES)
+            faults |= 1u << MANY_HOPS_OF_INFO;
+        sum += info[COMBINATOR_INFO_HOP_COUNT];
+    }
+    if (sum != hops)
+        faults |= 1u << OTHER_SUM;
+    if (path_len < (need += COMBINATOR_HOP_SIZE * hops))
+        return faults | 1u << CUT_HOPS;
+    if (path_len < need + COMBINATOR_INTERFACE_SIZE * interfaces)
+        faults |= 1u << CUT_INTERFACES;
+    return faults;
+}
+
+/* Of a path without a fault. */
+static size_t put_wire(uint8_t *out, const uint8_t *path)
+{
+    const uint8_t *info, *hop;
+    unsigned infos = path[COMBINATOR_PATH_INFO_COUNT], hops = path[COMBINATOR_PATH_HOP_COUNT], i;
+    size_t at = 0;
+    put_bits(out, &at, CURRENT_INFO_BITS, 0);
+    put_bits(out, &at, CURRENT_HOP_BITS, 0);
+    put_bits(out, &at, META_RESERVED_BITS, 0);
+    for (i = 0, info = path_infos(path); i < COMBINATOR_MAX_EDGES; i++, info += COMBINATOR_INFO_SIZE)
+        put_bits(out, &at, LENGTH_BITS, i < infos ? info[COMBINATOR_INFO_HOP_COUNT] : 0);
+    for (i = 0, info = path_infos(path); i < infos; i++, info += COMBINATOR_INFO_SIZE) {
+        put_bits(out, &at, FLAGS_RESERVED_BITS, 0);
+        put_bits(out, &at, FLAG_BITS, (info[COMBINATOR_INFO_FLAGS] & COMBINATOR_PEERING) != 0);
+        put_bits(out, &at, FLAG_BITS, (info[COMBINATOR_INFO_FLAGS] & COMBINATOR_CONSTRUCTION) != 0);
+        put_bits(out, &at, INFO_RESERVED_BYTE_BITS, 0);
+        put_bits(out, &at, ID_BITS, number16(info + COMBINATOR_INFO_ID));
+        put_bits(out, &at, TIMESTAMP_BITS, number32(info + COMBINATOR_INFO_TIMESTAMP));
+    }
+    for (i = 0, hop = path_hops(path); i < hops; i++, hop += COMBINATOR_HOP_SIZE) {
+        put_bits(out, &at, FLAGS_RESERVED_BITS, 0);
+        put_bits(out, &at, FLAG_BITS, 0); /* the alert at the ingress, and the one at the egress */
+        put_bits(out, &at, FLAG_BITS, 0);
+        put_bits(out, &at, UNITS_BITS, hop[COMBINATOR_HOP_UNITS]);
+        put_bits(out, &at, INTERFACE_BITS, number16(hop + COMBINATOR_HOP_INGRESS));
+        put_bits(out, &at, INTERFACE_BITS, number16(hop + COMBINATOR_HOP_EGRESS));
+        put_bits(out, &at, MAC_BITS, number(hop + COMBINATOR_HOP_MAC, COMBINATOR_MAC_SIZE));
+    }
+    return at / 8;
+}
+
+uint32_t model_write(const uint8_t *path, size_t path_len, uint8_t *out, size_t out_len)
+{
+    memset(out, 0, out_len);
+    if (out_len < COMBINATOR_WIRE_SIZE)
+        return COMBINATOR_SMALL;
+    if (model_path_faults(path, path_len))
+        return COMBINATOR_WIRE;
+    return (uint32_t)put_wire(out, path);
+}
+
+/* The lengths of a meta header whose other fields are passed over; how many are not 0, and their sum. */
+static void take_lengths(const uint8_t *wire, unsigned length[COMBINATOR_MAX_EDGES], unsigned *infos, unsigned *hops)
+{
+    size_t at = CURRENT_INFO_BITS + CURRENT_HOP_BITS + META_RESERVED_BITS;
+    unsigned i;
+    *infos = *hops = 0;
+    for (i = 0; i < COMBINATOR_MAX_EDGES; i++) {
+        length[i] = (unsigned)take_bits(wire, &at, LENGTH_BITS);
+        *infos += length[i] > 0;
+        *hops += length[i];
+    }
+}
+
+unsigned model_wire_faults(const uint8_t *wire, size_t wire_len)
+{
+    unsigned length[COMBINATOR_MAX_EDGES], infos, hops, faults = 0, i;
+    size_t at = 0, need;
+    if (wire_len < COMBINATOR_WIRE_META_SIZE)
+        return 1u << CUT_WIRE;
+    if (take_bits(wire, &at, CURRENT_INFO_BITS))
+        faults |= 1u << CURRENT_INFO;
+    if (take_bits(wire, &at, CURRENT_HOP_BITS))
+        faults |= 1u << CURRENT_HOP;
+    if (take_bits(wire, &at, META_RESERVED_BITS))
+        faults |= 1u << META_RESERVED;
+    take_lengths(wire, length, &infos, &hops);
+    if (length[0] == 0)
+        faults |= 1u << NO_FIRST_LENGTH;
+    for (i = 0; i < COMBINATOR_MAX_EDGES; i++) {
+        if (length[i] > COMBINATOR_MAX_ENTRIES)
+            faults |= 1u << LARGE_LENGTH;
+        if (i > 0 && length[0] > 0 && length[i - 1] == 0 && length[i] > 0)
+            faults |= 1u << NO_LENGTH_BETWEEN;
+    }
+    need = COMBINATOR_WIRE_META_SIZE + COMBINATOR_WIRE_INFO_SIZE * infos + COMBINATOR_WIRE_HOP_SIZE * hops;
+    if (wire_len < need)
+        return faults | 1u << CUT_WIRE;
+    if (wire_len > need)
+        faults |= 1u << SURPLUS_WIRE;
+    for (i = 0; i < infos; i++) {
+        at = 8 * (COMBINATOR_WIRE_META_SIZE + COMBINATOR_WIRE_INFO_SIZE * (size_t)i);
+        if (take_bits(wire, &at, FLAGS_RESERVED_BITS))
+            faults |= 1u << INFO_RESERVED_BITS;
+        at += 2 * FLAG_BITS;
+        if (take_bits(wire, &at, INFO_RESERVED_BYTE_BITS))
+            faults |= 1u << INFO_RESERVED_BYTE;
+    }
+    for (i = 0; i < hops; i++) {
+        at = 8 * (COMBINATOR_WIRE_META_SIZE + COMBINATOR_WIRE_INFO_SIZE * infos + COMBINATOR_WIRE_HOP_SIZE * (size_t)i);
+        if (take_bits(wire, &at, FLAGS_RESERVED_BITS + 2 * FLAG_BITS))
+            faults |= 1u << HOP_FLAGS;
+    }
+    return faults;
+}
+
+/* Of a path on the wire without a fault; what the wire does not have is zero. */
+static size_t put_read(uint8_t *out, const uint8_t *wire)
+{
+    unsigned length[COMBINATOR_MAX_EDGES], infos, hops, i;
+    size_t at = 8 * COMBINATOR_WIRE_META_SIZE;
+    uint8_t *put_at = out + COMBINATOR_PATH_HEAD_SIZE;
+    take_lengths(wire, length, &infos, &hops);
+    out[COMBINATOR_PATH_INFO_COUNT] = (uint8_t)infos;
+    out[COMBINATOR_PATH_HOP_COUNT] = (uint8_t)hops;
+    for (i = 0; i < infos; i++, put_at += COMBINATOR_INFO_SIZE) {
+        at += FLAGS_RESERVED_BITS;
+        if (take_bits(wire, &at, FLAG_BITS))
+            put_at[COMBINATOR_INFO_FLAGS] |= COMBINATOR_PEERING;
+        if (take_bits(wire, &at, FLAG_BITS))
+            put_at[COMBINATOR_INFO_FLAGS] |= COMBINATOR_CONSTRUCTION;
+        at += INFO_RESERVED_BYTE_BITS;
+        put_at[COMBINATOR_INFO_HOP_COUNT] = (uint8_t)length[i];
+        put16(put_at + COMBINATOR_INFO_ID, (unsigned)take_bits(wire, &at, ID_BITS));
+        put32(put_at + COMBINATOR_INFO_TIMESTAMP, (uint32_t)take_bits(wire, &at, TIMESTAMP_BITS));
+    }
+    for (i = 0; i < hops; i++, put_at += COMBINATOR_HOP_SIZE) {
+        at += FLAGS_RESERVED_BITS + 2 * FLAG_BITS;
+        put_at[COMBINATOR_HOP_UNITS] = (uint8_t)take_bits(wire, &at, UNITS_BITS);
+        put16(put_at + COMBINATOR_HOP_INGRESS, (unsigned)take_bits(wire, &at, INTERFACE_BITS));
+        put16(put_at + COMBINATOR_HOP_EGRESS, (unsigned)take_bits(wire, &at, INTERFACE_BITS));
+        put(put_at + COMBINATOR_HOP_MAC, COMBINATOR_MAC_SIZE, take_bits(wire, &at, MAC_BITS));
+    }
+    return (size_t)(put_at - out);
+}
+
+uint32_t model_read(const uint8_t *wire, size_t wire_len, uint8_t *out, size_t out_len)
+{
+    memset(out, 0, out_len);
+    if (out_len < COMBINATOR_PATH_SIZE)
+        return COMBINATOR_SMALL;
+    if (model_wire_faults(wire, wire_len))
+        return COMBINATOR_WIRE;
+    return (uint32_t)put_read(out, wire);
+}

@@ -51,5 +51,42 @@ uint32_t model_list(uint64_t src, uint64_t dst, const uint8_t *book, size_t book
 uint32_t model_routes(uint64_t src, uint64_t dst, const uint8_t *book, size_t book_len, uint8_t *out, size_t out_len);
 uint32_t model_assemble(uint64_t src, uint64_t dst, const uint8_t *book, size_t book_len, const uint8_t *record,
                         size_t record_len, uint8_t *out, size_t out_len);
+uint32_t model_write(const uint8_t *path, size_t path_len, uint8_t *out, size_t out_len);
+uint32_t model_read(const uint8_t *wire, size_t wire_len, uint8_t *out, size_t out_len);
+
+/* What the writer refuses in a path. Of the bytes that are lacking, the first ones. */
+enum path_fault {
+    NO_INFO,
+    MANY_INFOS,
+    INFO_FLAGS,
+    NO_HOP_OF_INFO,
+    MANY_HOPS_OF_INFO,
+    OTHER_SUM,
+    CUT_HEAD,
+    CUT_INFOS,
+    CUT_HOPS,
+    CUT_INTERFACES,
+    PATH_FAULTS
+};
+
+/* What the reader refuses in a path on the wire. */
+enum wire_fault {
+    CURRENT_INFO,
+    CURRENT_HOP,
+    META_RESERVED,
+    NO_FIRST_LENGTH,
+    NO_LENGTH_BETWEEN,
+    LARGE_LENGTH,
+    CUT_WIRE,
+    SURPLUS_WIRE,
+    INFO_RESERVED_BITS,
+    INFO_RESERVED_BYTE,
+    HOP_FLAGS,
+    WIRE_FAULTS
+};
+
+/* A bit for each fault that there is: 1 << fault. */
+unsigned model_path_faults(const uint8_t *path, size_t path_len);
+unsigned model_wire_faults(const uint8_t *wire, size_t wire_len);
 
 #endif

@@ -1,4 +1,4 @@
-/* replay ANSWERS REFUSALS ROUTES: the files of tests/stored, whose README gives their form. */
+/* replay ANSWERS REFUSALS ROUTES WIRE: the files of tests/stored, whose README gives their form. */
 #include <inttypes.h>
 #include <stdio.h>
 #include <stdlib.h>
@@ -132,13 +132,38 @@ static void replay_routes(struct file *f)
     printf("%s: %zu cases, %zu routes, all as stored\n", f->name, cases, routes);
 }
 
+static void replay_wire(struct file *f)
+{
+    size_t cases = 0, written = 0, read = 0;
+    for (; f->at < f->len; cases++) {
+        size_t given_len = take_number(f, FRONT_SIZE), call, out_len, want, n;
+        const uint8_t *given = take(f, given_len), *bytes;
+        uint32_t answer;
+        call = take_number(f, 1);
+        out_len = take_number(f, 4);
+        want = take_number(f, 1);
+        n = take_number(f, 2);
+        bytes = take(f, n);
+        if (call > 1 || out_len > sizeof out)
+            fail("%s: case %zu: call %zu, an output of %zu bytes", f->name, cases, call, out_len);
+        memset(out, 0xa5, sizeof out);
+        answer = call ? combinator_read(given, given_len, out, out_len) : combinator_write(given, given_len, out, out_len);
+        check_refusal(f, cases, call ? "reading" : "writing", answer, want, out_len);
+        if (!want && (answer != n || !holds(bytes, n, out_len)))
+            fail("%s: case %zu: %s answers %" PRIu32 ", or other bytes", f->name, cases, call ? "reading" : "writing", answer);
+        written += !want && !call;
+        read += !want && call;
+    }
+    printf("%s: %zu cases, %zu written and %zu read, all as stored\n", f->name, cases, written, read);
+}
+
 int replay_mode(int args, char **arg)
 {
-    static void (*const replays[])(struct file *) = {replay_answers, replay_refusals, replay_routes};
+    static void (*const replays[])(struct file *) = {replay_answers, replay_refusals, replay_routes, replay_wire};
     struct file f;
     int i;
-    if (args != 3)
-        usage("driver replay ANSWERS REFUSALS ROUTES");
+    if (args != sizeof replays / sizeof *replays)
+        usage("driver replay ANSWERS REFUSALS ROUTES WIRE");
     for (i = 0; i < args; i++) {
         f.name = arg[i];
         f.at = 0;

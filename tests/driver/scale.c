@@ -1,4 +1,4 @@
-/* scale: time against the size of a book, one size at a time. Each line is the least of many runs. */
+/* scale: time against the size of a book, one size at a time, and against the hops of a path. Each line is the least of many runs. */
 #include <inttypes.h>
 #include <stdio.h>
 
@@ -6,7 +6,7 @@
 #include "combinator.h"
 #include "common.h"
 
-static uint8_t book[BUILD_ROOM], list[COMBINATOR_LIST_SIZE], path[COMBINATOR_PATH_SIZE];
+static uint8_t book[BUILD_ROOM], list[COMBINATOR_LIST_SIZE], path[COMBINATOR_PATH_SIZE], wire[COMBINATOR_WIRE_SIZE];
 
 static void line(const char *what, unsigned size, size_t book_len)
 {
@@ -42,6 +42,34 @@ static void line(const char *what, unsigned size, size_t book_len)
     else
         printf("%9" PRIu32 " %12.2f %12.2f %12.2f\n", answer, (double)listing / 1000, answer ? (double)assembly / 1000 / answer : 0.0,
                (double)routes / 1000);
+}
+
+/* A path of three segments of `hops` hops each and every interface that they have. */
+static void wire_line(unsigned hops)
+{
+    uint64_t begun = now_ns(), writing = UINT64_MAX, reading = UINT64_MAX, start, written, read;
+    uint32_t path_len, wire_len;
+    unsigned runs, i;
+    for (runs = 0; runs < 5 || (runs < 20000 && now_ns() - begun < 20000000); runs++) {
+        path[COMBINATOR_PATH_INFO_COUNT] = COMBINATOR_MAX_EDGES;
+        path[COMBINATOR_PATH_HOP_COUNT] = (uint8_t)(COMBINATOR_MAX_EDGES * hops);
+        path[COMBINATOR_PATH_INTERFACE_COUNT] = (uint8_t)(2 * COMBINATOR_MAX_EDGES * hops);
+        for (i = 0; i < COMBINATOR_MAX_EDGES; i++)
+            path[COMBINATOR_PATH_HEAD_SIZE + COMBINATOR_INFO_SIZE * i + COMBINATOR_INFO_HOP_COUNT] = (uint8_t)hops;
+        start = now_ns();
+        wire_len = combinator_write(path, path_length(path), wire, sizeof wire);
+        written = now_ns();
+        path_len = COMBINATOR_IS_REFUSAL(wire_len) ? wire_len : combinator_read(wire, wire_len, path, sizeof path);
+        read = now_ns();
+        if (COMBINATOR_IS_REFUSAL(path_len))
+            fail("hops %u: answer %" PRIu32, hops, path_len);
+        if (written - start < writing)
+            writing = written - start;
+        if (read - written < reading)
+            reading = read - written;
+    }
+    printf("%-10s %5u %9" PRIu32 " %9" PRIu32 " %12.3f %12.3f\n", "hops", COMBINATOR_MAX_EDGES * hops, path_len, wire_len, (double)writing / 1000,
+           (double)reading / 1000);
 }
 
 int scale_mode(int args, char **arg)
@@ -88,5 +116,9 @@ int scale_mode(int args, char **arg)
     line("colliding", COLLIDING, build_colliding(book, FEW_IDS));
     line("colliding", COLLIDING, build_colliding(book, FEW_ASES));
     line("colliding", COMBINATOR_MAX_SOLUTIONS, build_colliding(book, MANY_IDS));
+    printf("Writing of a path into %d bytes, reading of it into %d.\n", COMBINATOR_WIRE_SIZE, COMBINATOR_PATH_SIZE);
+    printf("%-10s %5s %9s %9s %12s %12s\n", "growing", "size", "path", "wire", "writing us", "reading us");
+    for (n = 1; n <= COMBINATOR_MAX_ENTRIES; n++)
+        wire_line(n);
     return 0;
 }

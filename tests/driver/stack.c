@@ -15,16 +15,19 @@
 /* Left unpainted below the calling frame: less than this is not told apart. */
 #define MARGIN 1024
 
-static uint8_t *stack, book[BUILD_ROOM], list[COMBINATOR_LIST_SIZE], path[COMBINATOR_PATH_SIZE];
-enum kind { LISTING, ROUTES, ASSEMBLY, KINDS };
+static uint8_t *stack, book[BUILD_ROOM], list[COMBINATOR_LIST_SIZE], path[COMBINATOR_PATH_SIZE], wire[COMBINATOR_WIRE_SIZE];
+static uint8_t back[COMBINATOR_PATH_SIZE];
+enum kind { LISTING, ROUTES, ASSEMBLY, WRITING, READING, KINDS };
 
+static const char *const call_name[KINDS] = {"listing", "routes", "assembly", "writing", "reading"};
 static size_t most[KINDS];
 
-/* One call, and what it needed. */
+/* One call, and what it needed. Writing is of `path`, reading of `wire`. */
 struct call {
     const struct input *c;
     enum kind kind;
     const uint8_t *record; /* of assembly */
+    size_t wire_len;
     uint32_t answer;
     size_t needed;
 };
@@ -50,6 +53,12 @@ static void *run(void *given)
     case ROUTES:
         k->answer = combinator_routes(k->c->src, k->c->dst, k->c->book, k->c->book_len, list, sizeof list);
         break;
+    case WRITING:
+        k->answer = combinator_write(path, sizeof path, wire, sizeof wire);
+        break;
+    case READING:
+        k->answer = combinator_read(wire, k->wire_len, back, sizeof back);
+        break;
     default:
         k->answer = combinator_assemble(k->c->src, k->c->dst, k->c->book, k->c->book_len, k->record, COMBINATOR_RECORD_SIZE, path, sizeof path);
     }
@@ -70,6 +79,16 @@ static void call(struct call *k, enum kind kind)
         most[kind] = k->needed;
 }
 
+/* The path that assembly has left. */
+static void measure_wire(struct call *k)
+{
+    call(k, WRITING);
+    k->wire_len = k->answer;
+    call(k, READING);
+    if (COMBINATOR_IS_REFUSAL(k->wire_len) || COMBINATOR_IS_REFUSAL(k->answer))
+        fail("a path that assembly left is not written or not read");
+}
+
 /* What listing answers. */
 static uint32_t measure(const struct input *c)
 {
@@ -86,6 +105,8 @@ static uint32_t measure(const struct input *c)
     for (i = 0; i < n; i += step) {
         k.record = list + COMBINATOR_RECORD_SIZE * i;
         call(&k, ASSEMBLY);
+        if (k.answer == COMBINATOR_PATH)
+            measure_wire(&k);
     }
     return (uint32_t)n;
 }
@@ -129,10 +150,15 @@ int stack_mode(int args, char **arg)
             if (c.book)
                 measure(&c);
     }
-    printf("stack of one call: listing %zu bytes, routes %zu bytes, assembly %zu bytes (below %d is not told apart)\n", most[LISTING], most[ROUTES],
-           most[ASSEMBLY], MARGIN);
+    printf("stack of one call:");
     for (i = 0; i < KINDS; i++)
+        printf("%s %s %zu bytes", i ? "," : "", call_name[i], most[i]);
+    printf(" (below %d is not told apart)\n", MARGIN);
+    for (i = 0; i < KINDS; i++) {
+        if (!most[i])
+            fail("no %s was measured", call_name[i]);
         if (most[i] > COMBINATOR_STACK_SIZE)
-            fail("more than %d bytes", COMBINATOR_STACK_SIZE);
+            fail("%s takes more than %d bytes", call_name[i], COMBINATOR_STACK_SIZE);
+    }
     return 0;
 }

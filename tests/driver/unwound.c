@@ -1,8 +1,8 @@
 /* A program of its own, for tests/unwind: the library's unwind tables against what really happens.
  *
- *     unwound meet ROWS CODE MET ANSWERS REFUSALS
+ *     unwound meet ROWS CODE MET STORED...
  *
- * replays stored calls, as `driver replay` does, and stops before the instructions of the library, each the first times that it is met.
+ * replays the stored calls of these files, as `driver replay` does, and stops before the instructions of the library, each the first times that it is met.
  * There the row of ROWS for it must give the place of the return address, and the caller's registers as they were at the call. CODE has
  * the addresses of the instructions, each with 1 where a function starts, else 0. MET gets the addresses met.
  *
@@ -211,14 +211,14 @@ static void read_code(const char *name)
     fclose(f);
 }
 
-static int meet_mode(char **arg)
+static int meet_mode(int args, char **arg)
 {
     FILE *f;
     size_t i;
     handle(SIGTRAP, on_stop);
     read_rows(arg[0]);
     read_code(arg[1]);
-    if (replay_mode(3, arg + 3))
+    if (replay_mode(args - 3, arg + 3))
         return 1;
     f = fopen(arg[2], "w");
     for (i = 0; f && i < MOST_CODE; i++)
@@ -272,10 +272,10 @@ static uint8_t *short_memory(int which, size_t shown)
 
 static uint32_t answer;
 
-enum kind { LISTING, ROUTES, ASSEMBLY };
+enum kind { LISTING, ROUTES, ASSEMBLY, WRITING, READING };
 
-/* Neither inlined nor left by a jump, so that its own return address stands on the stack. */
-__attribute__((noinline)) static int attempt(enum kind kind, const uint8_t *book, size_t book_len, const uint8_t *record, uint8_t *out, size_t out_len)
+/* Of a book, or of a path or wire. Neither inlined nor left by a jump, so that its own return address stands on the stack. */
+__attribute__((noinline)) static int attempt(enum kind kind, const uint8_t *given, size_t given_len, const uint8_t *record, uint8_t *out, size_t out_len)
 {
     const uint64_t src = UINT64_C(0x0001ff0000000131), dst = UINT64_C(0x0001ff0000000141);
     landmark = __builtin_return_address(0);
@@ -283,20 +283,45 @@ __attribute__((noinline)) static int attempt(enum kind kind, const uint8_t *book
         return 1;
     switch (kind) {
     case LISTING:
-        answer = combinator_list(src, dst, book, book_len, out, out_len);
+        answer = combinator_list(src, dst, given, given_len, out, out_len);
         break;
     case ROUTES:
-        answer = combinator_routes(src, dst, book, book_len, out, out_len);
+        answer = combinator_routes(src, dst, given, given_len, out, out_len);
+        break;
+    case WRITING:
+        answer = combinator_write(given, given_len, out, out_len);
+        break;
+    case READING:
+        answer = combinator_read(given, given_len, out, out_len);
         break;
     default:
-        answer = combinator_assemble(src, dst, book, book_len, record, COMBINATOR_RECORD_SIZE, out, out_len);
+        answer = combinator_assemble(src, dst, given, given_len, record, COMBINATOR_RECORD_SIZE, out, out_len);
     }
     return 0;
 }
 
+/* Every call that ends within what is given, and then within the output; how many faults came of either. */
+static void fault_wire(enum kind kind, const uint8_t *given, size_t length)
+{
+    static uint8_t out[COMBINATOR_PATH_SIZE];
+    uint64_t before = faults, read;
+    uint8_t *memory;
+    size_t i;
+    for (i = 0; i < length; i++) {
+        memory = short_memory(0, i);
+        memcpy(memory, given, i);
+        attempt(kind, memory, length, NULL, out, sizeof out);
+    }
+    read = faults - before;
+    for (i = 0; i < sizeof out; i += 7)
+        attempt(kind, given, length, NULL, short_memory(2, i), sizeof out);
+    if (!read || faults - before == read)
+        fail("fewer faults of paths and wires than expected");
+}
+
 static int fault_mode(char **arg)
 {
-    static uint8_t list[COMBINATOR_LIST_SIZE], path[COMBINATOR_PATH_SIZE];
+    static uint8_t list[COMBINATOR_LIST_SIZE], path[COMBINATOR_PATH_SIZE], wire[COMBINATOR_WIRE_SIZE];
     size_t length, i;
     const uint8_t *book = read_file(arg[0], &length);
     uint8_t *memory, record[COMBINATOR_RECORD_SIZE];
@@ -327,16 +352,22 @@ static int fault_mode(char **arg)
     }
     if (listed < length || faults == listed)
         fail("fewer faults than expected");
+    if (attempt(ASSEMBLY, book, length, record, path, sizeof path) || answer != COMBINATOR_PATH)
+        fail("no path of %s", arg[0]);
+    fault_wire(WRITING, path, path_length(path));
+    if (attempt(WRITING, path, sizeof path, NULL, wire, sizeof wire) || COMBINATOR_IS_REFUSAL(answer))
+        fail("a path of %s is not written", arg[0]);
+    fault_wire(READING, wire, answer);
     printf("%" PRIu64 " faults at %" PRIu64 " places, %" PRIu64 " walks reach the caller\n", faults, place_count, reached);
     return reached == faults ? 0 : 1;
 }
 
 int main(int args, char **arg)
 {
-    if (args == 8 && !strcmp(arg[1], "meet"))
-        return meet_mode(arg + 2);
+    if (args > 5 && !strcmp(arg[1], "meet"))
+        return meet_mode(args - 2, arg + 2);
     if (args == 3 && !strcmp(arg[1], "fault"))
         return fault_mode(arg + 2);
-    usage("unwound meet ROWS CODE MET ANSWERS REFUSALS ROUTES | fault BOOK");
+    usage("unwound meet ROWS CODE MET STORED... | fault BOOK");
     return 2;
 }

@@ -1,4 +1,4 @@
-"""The forms of answers.bin, refusals.bin, routes.bin and of what the program that replays them reads (README.md)."""
+"""The forms of answers.bin, refusals.bin, routes.bin, wire.bin and of what the program that replays them reads (README.md)."""
 import os
 import sys
 
@@ -7,14 +7,16 @@ sys.path[:0] = [os.path.join(HERE, "..", "..", "tools"), os.path.join(HERE, ".."
 from batch import FRONT, framed  # noqa: E402
 from booktext.layout import ENDS, RECORD_SIZE, Field, Record  # noqa: E402
 
-LABEL, ANSWERED, CALLED, ASKED = range(4)      # tags of the items that the program reads
+LABEL, ANSWERED, CALLED, ASKED, CARRIED = range(5)      # tags of the items that the program reads
 LISTING, ASSEMBLY = range(2)            # the call of a case of refusals.bin
+WRITING, READING = range(2)             # the call of a case of wire.bin
 
 COUNT = Record("COUNT", Field("solutions", 2))
 OUTCOME = Record("OUTCOME", Field("answer", 1), Field("length", 2))
 CALL = Record("CALL", Field("call", 1), Field("room", 4), Field("length", 2))
 REFUSAL = Record("REFUSAL", Field("number", 1))
 ROUTED = Record("ROUTED", Field("room", 4), Field("number", 1), Field("routes", 2))
+CARRIAGE = Record("CARRIAGE", Field("call", 1), Field("room", 4), Field("number", 1), Field("length", 2))
 
 
 def given(src, dst, book):
@@ -35,6 +37,11 @@ def called(case, call, room, record, number):
 def routed(case, room, number, records):
     """A case of routes.bin; the number is 0 and the records are the routes' where the call is not refused."""
     return framed(case) + ROUTED.pack(room, number, len(records)) + b"".join(records)
+
+
+def carried(given, call, room, number, found):
+    """A case of wire.bin; the number is 0 and the bytes are those found where the call is not refused."""
+    return framed(given) + CARRIAGE.pack(call, room, number, len(found)) + found
 
 
 class Reader:
@@ -77,6 +84,10 @@ def routed_rest(r):
     r.take(RECORD_SIZE * r.next(ROUTED).routes)
 
 
+def carried_rest(r):
+    r.take(r.next(CARRIAGE).length)
+
+
 def answers():
     return list(Reader("answers.bin").cases(answered_rest))
 
@@ -87,3 +98,7 @@ def refusals():
 
 def routes():
     return list(Reader("routes.bin").cases(routed_rest))
+
+
+def wire():
+    return list(Reader("wire.bin").cases(carried_rest))

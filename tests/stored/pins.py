@@ -15,7 +15,7 @@ PROOFS = os.path.join(HERE, "..", "..", "crates", "spec", "proofs")
 sys.path.insert(0, os.path.join(HERE, ".."))
 import model  # noqa: E402
 
-PATH_SIZE = 1538
+PATH_SIZE, WIRE_SIZE = 1538, 604
 FULL, REFUSALS = 65544, 65536
 
 
@@ -113,13 +113,17 @@ def question(kind):
 
 # What CasesForm defines by more than a number or a list.
 FORMS = {
-    "[]": [], "replicate": lambda n, x: [x] * n, "length": len, "take": lambda n, xs: xs[:n], "drop": lambda n, xs: xs[n:], "map": lambda f, xs: [f(x) for x in xs], "flatMap": lambda f, xs: joined(map(f, xs)), "pathSize": PATH_SIZE,
+    "[]": [], "replicate": lambda n, x: [x] * n, "length": len, "take": lambda n, xs: xs[:n], "drop": lambda n, xs: xs[n:],
+    "set": lambda xs, i, x: xs[:i] + [x] + xs[i + 1:], "map": lambda f, xs: [f(x) for x in xs], "flatMap": lambda f, xs: joined(map(f, xs)),
+    "pathSize": PATH_SIZE,
     "octets2": number(2), "octets4": number(4), "octets8": number(8), "Printed.ascii": lambda t: list(t.encode()), "ascii": lambda t: list(t.encode()),
     "entry": entry, "peer": peer, "segment": lambda timestamp, ident, entries: (timestamp, ident, entries), "book": book,
     "edge": lambda *numbers: list(numbers), "solution": solution, "input": lambda b, src, dst: list(struct.pack(">QQ", src, dst)) + b,
     "case": lambda asked, expected: (asked, expected),
-    **{kind: question(kind) for kind in ("accept", "list", "route", "print", "assemble", "least", "sketch", "hold", "room", "live")},
+    **{kind: question(kind) for kind in ("accept", "list", "route", "print", "assemble", "least", "sketch", "hold", "room", "live", "write", "read", "writes",
+                                         "reads", "send", "carry")},
 }
+TAKEN = re.compile(r"^use Rattle\.spec\.proofs\.(\w+)\.\{([^}]*)\}", re.M)
 DEFINITION = re.compile(r"^(?:unfoldable |abbrev )?(?:pub )?(\w+) : [^\n]*\n\1((?: \w+)*) =\n?(.*?)(?=\n\n|\Z)", re.S | re.M)
 
 
@@ -132,10 +136,12 @@ def function(parameters, body, names):
     return called
 
 
-def definitions(name, names):
-    """Names, with those that a file of the tables defines of itself."""
+def definitions(name, names, others):
+    """Names, with those that a file of the tables takes from others and those that it defines of itself."""
     with open(os.path.join(PROOFS, name + ".antt")) as f:
         text = f.read()
+    for m in TAKEN.finditer(text):
+        names.update({taken: others[m[1]][taken] for taken in m[2].split(", ") if taken in others.get(m[1], {})})
     for m in DEFINITION.finditer(text):
         called, parameters, body = m.group(1), m.group(2).split(), m.group(3)
         if called in FORMS or called in ("isdAsn", "body", "head", "sketchOf", "answer", "right", "unhashed"):
@@ -149,10 +155,10 @@ def definitions(name, names):
 
 def tables():
     """(file, table, cases): those of SHA-256 are `hashed`."""
-    form = definitions("CasesForm", dict(FORMS))
-    for name in ("Cases", "PinnedCases", "RouteCases", "AddedCases"):
-        found = definitions(name, dict(form))
-        for table in ("table", "hashed"):
+    form, read = definitions("CasesForm", dict(FORMS), {}), {}
+    for name in ("Cases", "PinnedCases", "RouteCases", "AddedCases", "WireCases"):
+        read[name] = found = definitions(name, dict(form), read)
+        for table in ("table", "hashed", "bytewise"):
             if table in found:
                 yield name, table, found[table]
 
@@ -161,7 +167,7 @@ def asked(words):
     """Source, destination and book of a question; several of some, none of others."""
     if words[0] == "print" and len(words[1]) >= 16:
         return [bytes(words[1])]
-    if words[0] in ("list", "route", "assemble", "least", "sketch", "hold"):
+    if words[0] in ("list", "route", "assemble", "least", "sketch", "hold", "send"):
         return [struct.pack(">QQ", words[2], words[3]) + bytes(b) for b in (words[1] if words[0] in ("least", "sketch") else [words[1]])]
     return []
 
@@ -229,9 +235,19 @@ def parts(path):
              for k in range(count)])
 
 
-def held(path):
+def wire_parts(wire):
+    """Infos and hops of bytes on the wire: docs/SPECIFICATION.md 15.1 to 15.3. A byte past the end is 0."""
+    wire = wire.ljust(WIRE_SIZE, b"\0")
+    meta = int.from_bytes(wire[:4], "big")
+    lengths = [meta >> 12 & 63, meta >> 6 & 63, meta & 63]
+    used = lengths[:(lengths + [0]).index(0)]
+    infos = [struct.unpack_from(">BxHI", wire, 4 + 8 * k) for k in range(len(used))]
+    hops = [struct.unpack_from(">BHH6s", wire, 4 + 8 * len(used) + 12 * k + 1) for k in range(sum(lengths))]
+    return [(flags, count, ident, timestamp) for (flags, ident, timestamp), count in zip(infos, used)], hops
+
+
+def held(infos, hops):
     """The ids that a router holds at the hops of a path: docs/SPECIFICATION.md 7.1 to 7.4."""
-    infos, hops, _ = parts(path)
     found = []
     for flags, count, ident, _ in infos:
         of, hops = hops[:count], hops[count:]
@@ -284,7 +300,7 @@ def by(solutions, words):
         assert all(answer == 0 for _, answer, _ in solutions)
         return joined((least if words[0] == "least" else sketch)(path) for _, _, path in solutions)
     path = next(path for r, answer, path in solutions if list(r) == words[4] and answer == 0)
-    return held(path)
+    return numbered(model.write(path, WIRE_SIZE)) if words[0] == "send" else held(*parts(path)[:2])
 
 
 def modelled(given):
@@ -309,8 +325,23 @@ def unhashed(segment):
     return b"".join(struct.pack(">QHH", e.isd_as, e.hop.ingress, e.hop.egress) for e in segment.entries)
 
 
+def numbered(answer):
+    number, out = answer
+    return [number, *out]
+
+
 def modelled_answer(words):
     """The answer to any question, by the model; the exact text of a refusal too."""
+    if words[0] == "write":
+        return numbered(model.write(bytes(words[1]), words[2]))
+    if words[0] == "read":
+        return numbered(model.read(bytes(words[1]), words[2]))
+    if words[0] == "writes":
+        return [model.write(bytes(path), WIRE_SIZE)[0] for path in words[1]]
+    if words[0] == "reads":
+        return [model.read(bytes(wire), PATH_SIZE)[0] for wire in words[1]]
+    if words[0] == "carry":
+        return held(*wire_parts(bytes(words[1])))
     if words[0] == "accept":
         return [model.verdict(bytes(words[1]))]
     if words[0] == "room":

@@ -1,7 +1,7 @@
 """What a book is answered with: by the library where it is built, by the program `list` where not.
 
 The two give the same printed list, and so the same routes. Only the library gives the record and the whole path of a solution, which booktext.why
-works on.
+works on, and the bytes of a path on the wire.
 """
 import os
 import sys
@@ -92,6 +92,18 @@ def routes_of(listing, book):
     except combinator.Refusal as refusal:
         return found, [f"routes are {refusal}, and the list is not"]
     return found, routes.differing(found, answered, listing.solutions)
+
+
+def put_on_wire(listing):
+    """Gives each path of a list its bytes on the wire."""
+    if listing.without is not None:
+        raise Trouble(f"the program gives no bytes for the wire, the library does: {listing.without}")
+    for s in listing.solutions:
+        if s.path is not None:
+            try:
+                s.wire = combinator.write(s.path)
+            except combinator.Refusal as refusal:
+                raise Trouble(f"the library does not write the path of solution {s.number}: {refusal}") from None
 
 
 def solution(number, record, answer):

@@ -1,7 +1,8 @@
-"""Books, solution records and path records as bytes: every size, place, limit and number of theirs that Python code uses, each once.
+"""Books, solution records, path records and paths on the wire as bytes: every size, place, limit and number of theirs that Python code uses, each once.
 
-Books stand in docs/SPECIFICATION.md 2, records in 8, answers in 9, limits in 11. tests/layout holds all this to include/combinator.h, to the Rust
-beside it and to the proved code. Bytes are only laid out and read here; what is accepted, and what it means, is said elsewhere.
+Books stand in docs/SPECIFICATION.md 2, records in 8, answers in 9, limits in 11, paths on the wire in 15. tests/layout holds all this to
+include/combinator.h, to the Rust beside it and to the proved code. Bytes are only laid out and read here; what is accepted, and what it means, is said
+elsewhere.
 """
 import struct
 from collections import namedtuple
@@ -74,6 +75,28 @@ class Record:
         data[start:start + size] = number.to_bytes(size, "big")
 
 
+class Bits:
+    """Numbers of so many bits each, from the high end of one big-endian number down."""
+
+    def __init__(self, **bits):
+        self.bits, self.size = bits, sum(bits.values()) // 8
+        self.values = namedtuple("Values", bits, defaults=[0] * len(bits))
+
+    def pack(self, *values, **named):
+        """Numbers that are not given are zero."""
+        whole = 0
+        for bits, value in zip(self.bits.values(), self.values(*values, **named)):
+            whole = whole << bits | value
+        return whole.to_bytes(self.size, "big")
+
+    def unpack(self, data):
+        whole, found = int.from_bytes(data[:self.size], "big"), []
+        for bits in reversed([*self.bits.values()]):
+            found.append(whole & (1 << bits) - 1)
+            whole >>= bits
+        return self.values(*reversed(found))
+
+
 # ---- limits
 
 MAX_BOOK = 61440        # bytes
@@ -113,6 +136,13 @@ INFO = Record("INFO", Field("flags", 1), Field("hop-count", 1), Field("id", 2), 
 HOP = Record("HOP", Field("units", 1), Field("ingress", INTERFACE_ID_SIZE), Field("egress", INTERFACE_ID_SIZE), Field("mac", MAC_SIZE, "bytes"))
 PATH_SIZE = PATH_HEAD.size + MAX_EDGES * INFO.size + MAX_HOPS * HOP.size + MAX_INTERFACES * INTERFACE_SIZE
 
+# A path on the wire: the meta header, with the count of each info's hops, then infos, then hops.
+WIRE_META = Bits(current_info=2, current_hop=6, reserved=6, **{f"hops_{k}": 6 for k in range(MAX_EDGES)})
+WIRE_META_SIZE = WIRE_META.size
+WIRE_INFO = Record("WIRE_INFO", Field("flags", 1), Field("reserved", 1), Field("id", 2), Field("timestamp", 4))
+WIRE_HOP = Record("WIRE_HOP", Field("flags", 1), *HOP.fields)
+WIRE_SIZE = WIRE_META_SIZE + MAX_EDGES * WIRE_INFO.size + MAX_HOPS * WIRE_HOP.size
+
 # Of each entry of a segment, what its fingerprint is worked out of.
 FINGERPRINTED = Record("FINGERPRINTED", ENTRY.of.isd_as, ENTRY.of.ingress, ENTRY.of.egress)
 
@@ -123,15 +153,15 @@ CONSTRUCTION, PEERING = 1, 2
 
 PATH, LOOP, BARE = range(3)
 REFUSED = 65536         # refusal N is answered as REFUSED + N
-WORDS = dict(enumerate(("Cut", "Surplus", "Oversize", "Crowded", "Long", "Peers", "Misfit", "Full", "Small", "Stranger", "Twice"), 1))
-CUT, SURPLUS, OVERSIZE, CROWDED, LONG, PEERS, MISFIT, FULL, SMALL, STRANGER, TWICE = WORDS
+WORDS = dict(enumerate(("Cut", "Surplus", "Oversize", "Crowded", "Long", "Peers", "Misfit", "Full", "Small", "Stranger", "Twice", "Wire"), 1))
+CUT, SURPLUS, OVERSIZE, CROWDED, LONG, PEERS, MISFIT, FULL, SMALL, STRANGER, TWICE, WIRE = WORDS
 
 
 def constants():
     """Every name that the header has too, without its COMBINATOR_, and its number."""
     found = {name: value for name, value in globals().items() if name.isupper() and isinstance(value, int)}
     found.update({word.upper(): REFUSED + number for number, word in WORDS.items()})
-    for record in (COUNTS, HEAD, ENTRY, PEER, RECORD_HEAD, EDGE, PATH_HEAD, INFO, HOP):
+    for record in (COUNTS, HEAD, ENTRY, PEER, RECORD_HEAD, EDGE, PATH_HEAD, INFO, HOP, WIRE_INFO, WIRE_HOP):
         found[record.size_name] = record.size
         for name, place in record.at._asdict().items():
             found[f"{record.prefix}_{'AS' if name == 'isd_as' else name.upper()}"] = place

@@ -1,6 +1,6 @@
 """The list as JSON. man/book.1 has the shape.
 
-Numbers are numbers; ISD-ASes, ids of segments and MACs are strings, as in text. What is not known, or is not there, is null.
+Numbers are numbers; ISD-ASes, ids of segments, MACs and bytes on the wire are strings, as in text. What is not known, or is not there, is null.
 """
 import json
 
@@ -47,7 +47,8 @@ def solution(s, segments, reasons, now):
             "mtu": s.mtu, "expiry": s.expiry, "run_out": has_run_out(s, now) if is_path else None,
             "first_as": isd_as.written(s.interfaces[0][0]) if is_path else None, "last_as": isd_as.written(s.interfaces[-1][0]) if is_path else None,
             "hop_count": s.hops, "infos": infos(s) if is_path else None, "hops": [hop(h) for h in s.path.hops] if s.path else None,
-            "interfaces": [interface(*i) for i in s.interfaces] if is_path else None, "why": reasons_of(reasons) if reasons else None}
+            "interfaces": [interface(*i) for i in s.interfaces] if is_path else None, "wire": None if s.wire is None else s.wire.hex(),
+            "why": reasons_of(reasons) if reasons else None}
 
 
 def segment_id(ident):

@@ -29,9 +29,10 @@ class Solution:
     hops: int = None
     infos: list = field(default_factory=list)       # flags, segment id and timestamp of each
     interfaces: list = field(default_factory=list)  # pairs of AS and interface id
-    # Of the library, and unknown to a printed list: a combinator.Solution and a combinator.Path.
+    # Of the library, and unknown to a printed list: a combinator.Solution, a combinator.Path and, where they were asked for, its bytes on the wire.
     record: object = None
     path: object = None
+    wire: bytes = None
 
 
 def run(program, source, destination, book):

@@ -7,7 +7,7 @@ import hashlib
 from dataclasses import dataclass, field, replace
 from typing import Any, Dict, List, NamedTuple, Optional, Tuple
 
-from . import isd_as, printed, times
+from . import isd_as, printed, times, wire
 from .layout import FINGERPRINTED, PATH_HEAD
 
 MAX_MTU = PATH_HEAD.of.mtu.most
@@ -190,6 +190,8 @@ def reasons_of(segments, solution, now):
         found.run_out = has_run_out(solution, now)
         worked += [("MTU", found.mtu.number, solution.mtu), ("expiry", found.expiry.number, solution.expiry),
                    ("list of interfaces", route(interfaces), route(solution.interfaces))]
+    if solution.wire is not None:
+        worked.append(("path on the wire", wire.worked_out(solution.path).hex(), solution.wire.hex()))
     found.errors = [f"the {what} is {answered}, worked out here it is {here}" for what, here, answered in worked if here != answered]
     return found
 
@@ -311,11 +313,12 @@ def indented(lines):
 
 
 def told(solutions, found, names, now, more=None):
-    """The lines of each solution with names to their right, its reasons below, and what more there is to say of each.
+    """The lines of each solution with names to their right, its reasons below, what more there is to say of each, and its bytes on the wire.
 
     Where there are no reasons, `found` is None."""
     words, told = Words(names, now), ""
     for k, s in enumerate(solutions):
         further = more[k] if more else ()
         told += printed.with_names(printed.solution_lines(s), names) + (words.lines(found[k], s.outcome, further) if found else indented(further))
+        told += wire.told(s)
     return told

@@ -40,7 +40,7 @@ pub struct OwnedPath(Box<[u8]>);
 impl OwnedPath {
     /// The path, to be looked at.
     pub fn as_path(&self) -> Path<'_> {
-        Path::new(&self.0)
+        Path::of_record(&self.0)
     }
 }
 

@@ -92,6 +92,13 @@ pub const INTERFACE_SIZE: usize = AS_SIZE + INTERFACE_ID_SIZE;
 pub const PATH_SIZE: usize =
     PATH_HEAD_SIZE + MAX_EDGES * INFO_SIZE + MAX_HOPS * HOP_SIZE + MAX_INTERFACES * INTERFACE_SIZE;
 
+pub const WIRE_META_SIZE: usize = 4;
+pub const WIRE_INFO_SIZE: usize = 8;
+pub const WIRE_HOP_SIZE: usize = 12;
+
+/// The most bytes of a path on the wire: the least output of [`write`](crate::write).
+pub const WIRE_SIZE: usize = WIRE_META_SIZE + MAX_EDGES * WIRE_INFO_SIZE + MAX_HOPS * WIRE_HOP_SIZE;
+
 pub const CONSTRUCTION: u8 = 1;
 pub const PEERING: u8 = 2;
 

@@ -2,8 +2,9 @@
 //!
 //! [`list`] lists every way to join the segments of a book into a path from a source to a destination,
 //! the best first. [`routes`] lists each route once, by the solution that lives longest. [`assemble`]
-//! makes the path of one of them. All write to a lent buffer, and what they answer borrows it; nothing
-//! is allocated and nothing is kept between calls.
+//! makes the path of one of them. [`write()`] writes a path as the bytes that routers take, and [`read`]
+//! reads such bytes back. All write to a lent buffer, and what they answer borrows it; nothing is
+//! allocated and nothing is kept between calls.
 //!
 //! With the feature `alloc`, `combine` and `combine_routes` take segments and answer paths that own
 //! their bytes.
@@ -16,12 +17,12 @@
 extern crate alloc;
 
 mod book;
+mod bytes;
 #[cfg(feature = "alloc")]
 mod combine;
 mod isd_asn;
 mod layout;
 mod path;
-mod read;
 mod refusal;
 mod solution;
 
@@ -31,7 +32,7 @@ pub use combine::{combine, combine_routes, paths, route_paths, OwnedPath, OwnedS
 pub use isd_asn::{IsdAsn, ParseError};
 pub use layout::{
     LIST_SIZE, MAX_BOOK, MAX_EDGES, MAX_ENTRIES, MAX_HOPS, MAX_INTERFACES, MAX_PEERS, MAX_SEGMENTS,
-    MAX_SOLUTIONS,
+    MAX_SOLUTIONS, WIRE_SIZE,
 };
 pub use path::{HopField, InfoField, Path, PathInterface, Segment};
 pub use refusal::Refusal;
@@ -64,6 +65,20 @@ mod ffi {
             book_len: usize,
             record: *const u8,
             record_len: usize,
+            out: *mut u8,
+            out_len: usize,
+        ) -> u32;
+
+        pub fn combinator_write(
+            path: *const u8,
+            path_len: usize,
+            out: *mut u8,
+            out_len: usize,
+        ) -> u32;
+
+        pub fn combinator_read(
+            wire: *const u8,
+            wire_len: usize,
             out: *mut u8,
             out_len: usize,
         ) -> u32;
@@ -127,9 +142,14 @@ pub fn routes<'a>(
 }
 
 fn listed(answer: u32, out: &[u8]) -> Result<Solutions<'_>, Refusal> {
+    Ok(Solutions::new(out, counted(answer)?))
+}
+
+/// The count that an answer is, where it is no refusal.
+fn counted(answer: u32) -> Result<usize, Refusal> {
     match Refusal::of_answer(answer) {
         Some(refusal) => Err(refusal),
-        None => Ok(Solutions::new(out, answer as usize)),
+        None => Ok(answer as usize),
     }
 }
 
@@ -181,11 +201,38 @@ pub fn assemble<'a>(
         )
     };
     match answer {
-        layout::PATH => Ok(Assembled::Path(Path::new(out))),
+        layout::PATH => Ok(Assembled::Path(Path::at_front(out))),
         layout::LOOP => Ok(Assembled::Loop),
         layout::BARE => Ok(Assembled::Bare),
         _ => Err(Refusal::of_answer(answer).expect("an answer that combinator.h names")),
     }
+}
+
+/// Writes a path as the bytes that routers take: the standard path of the SCION data plane, with both
+/// current indexes 0.
+///
+/// `path` is a [`Path`], or the bytes of one; other bytes are refused as [`Refusal::Wire`]. Its infos and
+/// hops are written. Its interfaces must be there and are not looked at, nor are bytes after them. `out`
+/// has at least [`WIRE_SIZE`] bytes. [`Path::encode`] is this call where nothing can be refused.
+pub fn write(path: impl AsRef<[u8]>, out: &mut [u8]) -> Result<&[u8], Refusal> {
+    let record = path.as_ref();
+    // SAFETY: as in `list`; `path` lives until the call has ended.
+    let answer = unsafe {
+        ffi::combinator_write(record.as_ptr(), record.len(), out.as_mut_ptr(), out.len())
+    };
+    Ok(&out[..counted(answer)?])
+}
+
+/// Reads a path on the wire, which is all of `wire`, back into a path of which infos and hops alone are
+/// known: all else in it is zero, and it has no interfaces. Written again it gives the same bytes.
+///
+/// Bytes that [`write()`] can not have written are refused as [`Refusal::Wire`]; those of a packet on its
+/// way are, since its current indexes have moved. `out` has at least [`Path::SIZE`] bytes.
+pub fn read<'a>(wire: &[u8], out: &'a mut [u8]) -> Result<Path<'a>, Refusal> {
+    // SAFETY: as in `list`.
+    let answer =
+        unsafe { ffi::combinator_read(wire.as_ptr(), wire.len(), out.as_mut_ptr(), out.len()) };
+    Ok(Path::of_record(&out[..counted(answer)?]))
 }
 
 /// Makes the examples of README.md tests.

@@ -1,27 +1,31 @@
 use core::fmt::{self, Debug, Display, Formatter};
 
 use crate::{
+    bytes::{array, records, u16_at, u32_at, u64_at},
     layout::*,
-    read::{array, records, u16_at, u32_at, u64_at},
-    IsdAsn,
+    write, IsdAsn,
 };
 
-/// A path as [`assemble`](crate::assemble) laid it out.
+/// A path as [`assemble`](crate::assemble) or [`read`](crate::read) laid it out.
 #[derive(Clone, Copy, PartialEq, Eq)]
 pub struct Path<'a> {
     bytes: &'a [u8],
 }
 
 impl<'a> Path<'a> {
-    /// The least output of [`assemble`](crate::assemble).
+    /// The least output of [`assemble`](crate::assemble) and of [`read`](crate::read).
     pub const SIZE: usize = PATH_SIZE;
 
-    pub(crate) fn new(out: &'a [u8]) -> Self {
+    /// The path whose record the bytes are.
+    pub(crate) fn of_record(bytes: &'a [u8]) -> Self {
+        Self { bytes }
+    }
+
+    /// The path whose record stands at the front of an output.
+    pub(crate) fn at_front(out: &'a [u8]) -> Self {
         let [infos, hops, interfaces] = counts(out);
         let rest = INFO_SIZE * infos + HOP_SIZE * hops + INTERFACE_SIZE * interfaces;
-        Self {
-            bytes: &out[..PATH_HEAD_SIZE + rest],
-        }
+        Self::of_record(&out[..PATH_HEAD_SIZE + rest])
     }
 
     /// The MTU.
@@ -83,6 +87,17 @@ impl<'a> Path<'a> {
         self.bytes
     }
 
+    /// The path as routers take it: [`write()`] where nothing can be refused. What is left of `out` is zero.
+    pub fn encode<'b>(&self, out: &'b mut [u8; WIRE_SIZE]) -> &'b [u8] {
+        write(self, out).expect("a path that the library laid out")
+    }
+
+    /// The path as routers take it.
+    #[cfg(feature = "alloc")]
+    pub fn encode_to_vec(&self) -> alloc::vec::Vec<u8> {
+        self.encode(&mut [0; WIRE_SIZE]).to_vec()
+    }
+
     fn parts(&self) -> Parts<'a> {
         let [infos, hops, interfaces] = counts(self.bytes);
         let (infos, rest) = self.bytes[PATH_HEAD_SIZE..].split_at(INFO_SIZE * infos);
@@ -94,6 +109,13 @@ impl<'a> Path<'a> {
             ases,
             ids,
         }
+    }
+}
+
+/// The path's record.
+impl AsRef<[u8]> for Path<'_> {
+    fn as_ref(&self) -> &[u8] {
+        self.bytes
     }
 }
 

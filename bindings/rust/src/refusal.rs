@@ -28,17 +28,22 @@ pub enum Refusal {
     Misfit = 7,
     /// Listing, also of routes: more solutions than slots.
     Full = 8,
-    /// Assembly: the output is under [`Path::SIZE`](crate::Path::SIZE) bytes.
+    /// The output is too short: of assembly and of [`read`](crate::read) under
+    /// [`Path::SIZE`](crate::Path::SIZE) bytes, of [`write`](crate::write) under
+    /// [`WIRE_SIZE`](crate::WIRE_SIZE).
     Small = 9,
     /// Assembly: no solution of this book, source and destination.
     Stranger = 10,
     /// An entry whose AS stands earlier in the same segment.
     Twice = 11,
+    /// To [`write`](crate::write) a path that has no form on the wire; to [`read`](crate::read) bytes
+    /// that no path has.
+    Wire = 12,
 }
 
 impl Refusal {
     /// All refusals, by number.
-    pub const ALL: [Self; 11] = [
+    pub const ALL: [Self; 12] = [
         Self::Cut,
         Self::Surplus,
         Self::Oversize,
@@ -50,6 +55,7 @@ impl Refusal {
         Self::Small,
         Self::Stranger,
         Self::Twice,
+        Self::Wire,
     ];
 
     /// The number: docs/SPECIFICATION.md 9.2.
@@ -77,6 +83,7 @@ impl Refusal {
             Self::Small => "Small",
             Self::Stranger => "Stranger",
             Self::Twice => "Twice",
+            Self::Wire => "Wire",
         }
     }
 
@@ -96,9 +103,15 @@ impl Refusal {
                 f.write_str("body lengths do not sum to the total, or a body is not filled exactly")
             }
             Self::Full => f.write_str("there are more solutions than slots"),
-            Self::Small => write!(f, "the output is under {PATH_SIZE} bytes"),
+            Self::Small => write!(
+                f,
+                "the output is under {PATH_SIZE} bytes, or under {WIRE_SIZE} for the wire"
+            ),
             Self::Stranger => f.write_str("no solution of this book, source and destination"),
             Self::Twice => f.write_str("an entry's AS stands earlier in the same segment"),
+            Self::Wire => {
+                f.write_str("the path has no form on the wire, or no path has these bytes")
+            }
         }
     }
 

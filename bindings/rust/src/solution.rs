@@ -4,8 +4,8 @@ use core::{
 };
 
 use crate::{
+    bytes::{array, records, u16_at, Records},
     layout::*,
-    read::{array, records, u16_at, Records},
 };
 
 /// The solutions that [`list`](crate::list) found, the best first, or one for each route, as

@@ -1,4 +1,4 @@
--- The tables of computed cases end to end: where a case asks for a list, for routes or for a path, what an exported function returns and leaves, by its
+-- The tables of computed cases end to end: where a case asks for a list, for routes, for a path or for its bytes on the wire, what an exported function returns and leaves, by its
 -- contract, is what stands beside the question. The first table is of docs/SPECIFICATION.md 13.1; its cases that ask for the printed text are those
 -- of crate `printed`, proofs/Cases.
 -- Assumes nothing.
@@ -6,13 +6,14 @@ use Prim.Native.Nat.{ℕ}
 use mathlib.Core.Path.{_≡_, ap, _∙_}
 use mathlib.Core.List.{List, _∷_, _++_, List·Memᴰ as Mem}
 use Rattle.sha256.specs.Message.{sha256}
-use Rattle.spec.proofs.CasesForm.{list, route, assemble, case, answer}
+use Rattle.spec.proofs.CasesForm.{list, route, assemble, write, read, case, answer}
 use Rattle.spec.proofs.Cases.{table}
 use Rattle.spec.proofs.AddedCases.{table as added, hashed}
 use Rattle.spec.proofs.PinnedCases.{table as pinned}
 use Rattle.spec.proofs.RouteCases.{table as routes}
-use Rattle.spec.proofs.CasesRead.{p-answer, added-answer, hashed-answer}
-use Rattle.combinator.specs.Exports.{Returned, numberedList, numberedPath, listReturned, routesReturned, pathReturned}
+use Rattle.spec.proofs.WireCases.{table as wires, bytewise}
+use Rattle.spec.proofs.CasesRead.{p-answer, added-answer, hashed-answer, wire-answer}
+use Rattle.combinator.specs.Exports.{Returned, numberedList, numberedPath, numberedWire, listReturned, routesReturned, pathReturned, writeReturned, readReturned}
 
 -- the number, then the output's bytes
 abbrev bytes-of : Returned → List ℕ
@@ -43,3 +44,13 @@ pub assemble-case : (b : List ℕ) (src dst : ℕ) (given : List ℕ) (bytes : �
     → _≡_ {A = Returned} (r, out) (pathReturned b src dst given bytes) → Mem (case (assemble b src dst given bytes) expected) (added ++ pinned ++ routes) → r ∷ out ≡ expected
 unfolding answer pathReturned numberedPath
 assemble-case b src dst given bytes expected r out q m = ap bytes-of q ∙ added-answer (case (assemble b src dst given bytes) expected) m
+
+-- `combinator_write` and `combinator_read`: a case of the fifth table
+module _ (given : List ℕ) (bytes : ℕ) (expected : List ℕ) (r : ℕ) (out : List ℕ) where
+  pub write-case : _≡_ {A = Returned} (r, out) (writeReturned given bytes) → Mem (case (write given bytes) expected) (wires ++ bytewise) → r ∷ out ≡ expected
+  unfolding answer writeReturned numberedWire
+  write-case q m = ap bytes-of q ∙ wire-answer sha256 (case (write given bytes) expected) m
+
+  pub read-case : _≡_ {A = Returned} (r, out) (readReturned given bytes) → Mem (case (read given bytes) expected) (wires ++ bytewise) → r ∷ out ≡ expected
+  unfolding answer readReturned numberedWire
+  read-case q m = ap bytes-of q ∙ wire-answer sha256 (case (read given bytes) expected) m

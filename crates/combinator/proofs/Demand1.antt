@@ -12,12 +12,16 @@ use Rattle.spec.specs.declared.ListAnswer.{ListAnswer}
 use Rattle.spec.specs.declared.ListAnswer.the-variants.{Count, Refused as RefusedList}
 use Rattle.spec.specs.declared.PathAnswer.{PathAnswer}
 use Rattle.spec.specs.declared.PathAnswer.the-variants.{Path, Loop, Bare, Refused as RefusedPath}
-use Rattle.spec.specs.Limits.{maxSlots}
+use Rattle.spec.specs.declared.WireAnswer.{WireAnswer}
+use Rattle.spec.specs.declared.WireAnswer.the-variants.{Count as WireCount, Refused as RefusedWire}
+use Rattle.spec.specs.Limits.{maxSlots, pathSize, wireSize}
 use Rattle.spec.specs.Octets.{Bytes}
 use Rattle.spec.specs.Answers.{Listed, Assembled, listNumber, pathNumber, listing, assembly}
 use Rattle.spec.specs.Routes.{routing}
+use Rattle.spec.specs.Wire.{Carried, wireNumber, writing, reading}
 use Rattle.spec.proofs.Demand1.{demand-1 as demand-1-of}
-use Rattle.combinator.specs.Exports.{isdAsn, numberedList, numberedPath, listReturned, routesReturned, pathReturned}
+use Rattle.spec.proofs.WireLaws.{reversible}
+use Rattle.combinator.specs.Exports.{isdAsn, numberedList, numberedPath, numberedWire, listReturned, routesReturned, pathReturned, writeReturned, readReturned}
 use Rattle.combinator.specs.Demand1.{IsRefusal, Demand1}
 use Rattle.combinator.proofs.Returning.{count-most, routes-most}
 
@@ -40,8 +44,16 @@ path-cases bytes p zeros = go (p .0) refl
     go Bare q = inl (omega (arith, ap pathNumber q))
     go (RefusedPath r) q = inr (r, ap₂ (λ n o. (n, o)) (ap pathNumber q) (zeros (λ e. omega (arith, ap pathNumber q, ap pathNumber e))))
 
+wire-cases : (bytes most : ℕ) (w : Carried) → ((n : ℕ) → w .0 ≡ WireCount n → n ≤ most) → ((r : Refusal) → w .0 ≡ RefusedWire r → w .1 ≡ replicate bytes 0)
+    → (wireNumber (w .0) ≤ most) ⊎ IsRefusal bytes (wireNumber (w .0), w .1)
+wire-cases bytes most w low zeros = go (w .0) refl
+  where
+    go : (a : WireAnswer) → w .0 ≡ a → (wireNumber (w .0) ≤ most) ⊎ IsRefusal bytes (wireNumber (w .0), w .1)
+    go (WireCount n) q = inl (omega (arith, ap wireNumber q, low n q))
+    go (RefusedWire r) q = inr (r, ap₂ (λ n o. (n, o)) (ap wireNumber q) (zeros r q))
+
 pub demand-1 : (b : List ℕ) → Bytes b → (src dst : ℕ) (given : List ℕ) (bytes : ℕ) → Demand1 b src dst given bytes
-unfolding listReturned routesReturned pathReturned numberedList numberedPath
+unfolding listReturned routesReturned pathReturned writeReturned readReturned numberedList numberedPath numberedWire
 demand-1 b bs src dst given bytes =
     let d = demand-1-of sha256 b bs (isdAsn src) (isdAsn dst) given bytes in
     record {
@@ -52,4 +64,8 @@ demand-1 b bs src dst given bytes =
       path-answer = path-cases bytes (assembly b (isdAsn src) (isdAsn dst) given bytes) (d .path-none);
       path-length = d .path-length;
       path-none = λ h. d .path-none (λ q. h (ap pathNumber q));
+      write-answer = λ gs. wire-cases bytes wireSize (writing given bytes) (λ n q. reversible given gs .wire-count n bytes q .1) (d .write-refused);
+      write-length = d .write-length;
+      read-answer = λ gs. wire-cases bytes pathSize (reading given bytes) (λ n q. reversible given gs .record-count n bytes q .1) (d .read-refused);
+      read-length = d .read-length;
     }

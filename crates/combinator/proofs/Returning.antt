@@ -16,6 +16,8 @@ use Rattle.spec.specs.declared.Verdict.the-variants.{Accepted, Refused as Refus
 use Rattle.spec.specs.declared.ListAnswer.{ListAnswer}
 use Rattle.spec.specs.declared.ListAnswer.the-variants.{Count, Refused as RefusedList}
 use Rattle.spec.specs.declared.PathAnswer.{PathAnswer}
+use Rattle.spec.specs.declared.WireAnswer.{WireAnswer}
+use Rattle.spec.specs.declared.WireAnswer.the-variants.{Count as WireCount, Refused as RefusedWire}
 use Rattle.spec.specs.Limits.{maxSlots}
 use Rattle.spec.specs.Basics.{if_then_else_, padded}
 use Rattle.spec.specs.Book.{verdict}
@@ -23,10 +25,11 @@ use Rattle.spec.specs.Order.{solutions}
 use Rattle.spec.specs.Records.{solutionOctets, slots}
 use Rattle.spec.specs.Answers.{Listed, Assembled, refusals, refusalNumber, listNumber, pathNumber, refusedList, listingOf, listingOn, listing, assembly}
 use Rattle.spec.specs.Routes.{routes, routingOf, routingOn, routing}
+use Rattle.spec.specs.Wire.{Carried, wireNumber}
 use Rattle.spec.proofs.RouteLaws.{routes-few}
 use Rattle.sha256.specs.Message.{sha256}
 use Rattle.graph.proofs.ListLaws.{slots-most}
-use Rattle.combinator.specs.Exports.{isdAsn, Returned, numberedList, numberedPath, listReturned, routesReturned, pathReturned}
+use Rattle.combinator.specs.Exports.{isdAsn, Returned, numberedList, numberedPath, numberedWire, listReturned, routesReturned, pathReturned}
 
 -- ---- a count
 
@@ -97,3 +100,17 @@ module _ (b : List ℕ) (src dst : ℕ) (given : List ℕ) (bytes : ℕ) (a : Pa
   pub path-number : (x : PathAnswer) (n : ℕ) → a ≡ x → n ≡ pathNumber x → _≡_ {A = Returned} (n, out) (pathReturned b src dst given bytes)
   unfolding pathReturned numberedPath
   path-number x n q k = ap (λ m. (m, out)) k ∙ ap (λ y. (pathNumber y, out)) (sym q) ∙ ap numberedPath e
+
+-- ---- the writer's and the reader's
+
+module _ (c : Carried) (a : WireAnswer) (out : List ℕ) (e : _≡_ {A = Carried} (a, out) c) where
+  pub wire-told : (n : ℕ) → a ≡ WireCount n → c .0 ≡ WireCount n
+  wire-told n q = sym (ap (λ (x : Carried). x .0) e) ∙ q
+
+  pub wire-count : (n : ℕ) → a ≡ WireCount n → _≡_ {A = Returned} (n, out) (numberedWire c)
+  unfolding numberedWire
+  wire-count n q = ap (λ x. (wireNumber x, out)) (sym q) ∙ ap numberedWire e
+
+  pub wire-refusal : (r : Refusal) (n : ℕ) → a ≡ RefusedWire r → n ≡ refusalNumber r → _≡_ {A = Returned} (refusals + n, out) (numberedWire c)
+  unfolding numberedWire
+  wire-refusal r n q k = ap (λ m. (refusals + m, out)) k ∙ ap (λ x. (wireNumber x, out)) (sym q) ∙ ap numberedWire e

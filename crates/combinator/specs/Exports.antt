@@ -8,6 +8,7 @@ use Rattle.sha256.specs.Message.{sha256}
 use Rattle.spec.specs.declared.IsdAsn.{IsdAsn}
 use Rattle.spec.specs.Answers.{Listed, Assembled, listNumber, pathNumber, listing, assembly}
 use Rattle.spec.specs.Routes.{routing}
+use Rattle.spec.specs.Wire.{Carried, wireNumber, writing, reading}
 
 abbrev pub isdAsn : ℕ → IsdAsn
 isdAsn n = record { 0 = n }
@@ -33,3 +34,14 @@ routesReturned book src dst bytes = numberedList (routing sha256 book (isdAsn sr
 -- of `combinator_assemble`
 unfoldable pub pathReturned : List ℕ → ℕ → ℕ → List ℕ → ℕ → Returned
 pathReturned book src dst given bytes = numberedPath (assembly book (isdAsn src) (isdAsn dst) given bytes)
+
+unfoldable pub numberedWire : Carried → Returned
+numberedWire c = (wireNumber (c .0), c .1)
+
+-- of `combinator_write`
+unfoldable pub writeReturned : List ℕ → ℕ → Returned
+writeReturned path bytes = numberedWire (writing path bytes)
+
+-- of `combinator_read`
+unfoldable pub readReturned : List ℕ → ℕ → Returned
+readReturned wire bytes = numberedWire (reading wire bytes)

@@ -3,3 +3,4 @@ pub mod Demand1
 pub mod Demand3
 pub mod Routes
 pub mod Twice
+pub mod WireDemand

@@ -2,10 +2,11 @@
 // number is the answer itself; 65,536 + N is refusal N.
 ghost use mathlib.Core.Path.{_≡_};
 ghost use lib.ListN.{length};
-ghost use Rattle.combinator.specs.Exports.{listReturned, routesReturned, pathReturned};
+ghost use Rattle.combinator.specs.Exports.{listReturned, routesReturned, pathReturned, writeReturned, readReturned};
 use spec::IsdAsn;
 use spec::ListAnswer;
 use spec::PathAnswer;
+use spec::WireAnswer;
 
 const REFUSALS: u32 = 65536;
 
@@ -50,5 +51,29 @@ pub extern "C" fn combinator_assemble(
         PathAnswer::Loop => 1,
         PathAnswer::Bare => 2,
         PathAnswer::Refused(r) => REFUSALS + r.number(),
+    }
+}
+
+// Writes the path of a path record as the bytes that the routers take: how many they are.
+#[no_mangle]
+pub extern "C" fn combinator_write(path: &[u8], out: &mut [u8]) -> u32
+    ensures { λ r. ⌜ (r, now (out .exit)) ≡ writeReturned (now (path .entry)) (length (now (out .entry))) ⌝ }
+{
+    let answer = wire::write(path, out);
+    match answer {
+        WireAnswer::Count(n) => n as u32,
+        WireAnswer::Refused(r) => REFUSALS + r.number(),
+    }
+}
+
+// Reads such bytes into a path record of which only infos and hops are known: how many bytes it has.
+#[no_mangle]
+pub extern "C" fn combinator_read(wire: &[u8], out: &mut [u8]) -> u32
+    ensures { λ r. ⌜ (r, now (out .exit)) ≡ readReturned (now (wire .entry)) (length (now (out .entry))) ⌝ }
+{
+    let answer = wire::read(wire, out);
+    match answer {
+        WireAnswer::Count(size) => size as u32,
+        WireAnswer::Refused(why) => REFUSALS + why.number(),
     }
 }

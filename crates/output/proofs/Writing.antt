@@ -8,7 +8,7 @@ use native.Mathlib.Omega.{arith}
 use mathlib.Core.Path.{_≡_, refl, sym, ap, _∙_}
 use mathlib.Core.List.{List, [], _∷_, _++_, append-nil}
 use lib.ListN.{length, take, drop, getD, set, replicate, length-append, length-take, length-drop, length-replicate, take-append-drop, replicate-append-replicate, drop-of-length-le}
-use lib.Seq.{sets, length-sets, set-out, take-all, take-suc, take-take, take-length, length-take-le, take-at, drop-append-add, getD-drop}
+use lib.Seq.{sets, length-sets, set-out, take-all, take-suc, take-take, take-length, length-take-le, take-at, drop-append-add, drop-length, getD-drop}
 use Rattle.spec.specs.Octets.{octets2, octets4, octets8}
 use Rattle.output.specs.Write.{written, zeroed}
 
@@ -202,3 +202,19 @@ copied-all d at s from n k h = go (decLe (length d) (at + k))
 pub copied-done : (d : List ℕ) (at : ℕ) (s : List ℕ) (from j n : ℕ) → j ≤ n → n ≤ j → copied d at s from j ≡ written d at (take n (drop from s))
 unfolding copied
 copied-done d at s from j n p q = ap (λ k. written d at (take k (drop from s))) (le-antisymm p q)
+
+-- ---- by way of a local piece
+
+-- a write over all there is
+pub over : (z xs : List ℕ) → length xs ≡ length z → written z 0 xs ≡ xs
+over z xs l = written-next [] z 0 xs refl (omega arith) ∙ ap (λ n. xs ++ drop n z) l ∙ ap (λ t. xs ++ t) (drop-length z) ∙ append-nil xs
+
+-- the local piece copied
+pub passed-on : (n : ℕ) (z xs r d : List ℕ) (to : ℕ) (d′ : List ℕ) → length z ≡ n → length xs ≡ n → r ≡ written z 0 xs → d′ ≡ written d to (take n (drop 0 r))
+    → d′ ≡ written d to xs
+passed-on n z xs r d to d′ lz lx q p =
+    p ∙ ap (λ t. written d to (take n (drop 0 t))) (q ∙ over z xs (omega arith)) ∙ ap (written d to) (take-all n xs (omega arith))
+
+pub piece-put : (n : ℕ) (z b : List ℕ) (from : ℕ) (r d : List ℕ) (to : ℕ) (d′ : List ℕ) → length z ≡ n → from + n ≤ length b
+    → r ≡ written z 0 (take n (drop from b)) → d′ ≡ written d to (take n (drop 0 r)) → d′ ≡ written d to (take n (drop from b))
+piece-put n z b from r d to d′ lz h q p = passed-on n z (take n (drop from b)) r d to d′ lz (length-take-le n (drop from b) (simp length-drop (omega arith))) q p

@@ -13,7 +13,7 @@ use Rattle.spec.specs.Book.{isdAsnAt, asEntryAt, peerEntryAt}
 use Rattle.spec.specs.Records.{hopOctets}
 use Rattle.spec.proofs.OctetLaws.{byte-first, bytes-split, mac-bytes, be16s-bytes, be64-bytes}
 use Rattle.output.specs.Write.{written}
-use Rattle.output.proofs.Writing.{written-one, written-next, written-pair}
+use Rattle.output.proofs.Writing.{written-one, written-pair, over, passed-on, piece-put}
 
 module _ (b : List ℕ) (bytes : Bytes b) where
   -- of a peer the bytes of a hop stand in one piece
@@ -35,20 +35,6 @@ module _ (b : List ℕ) (bytes : Bytes b) where
       ∙ simp add-assoc
 
 -- ---- by way of a local piece
-
--- a write over all there is
-over : (z xs : List ℕ) → length xs ≡ length z → written z 0 xs ≡ xs
-over z xs l = written-next [] z 0 xs refl (omega arith) ∙ ap (λ n. xs ++ drop n z) l ∙ ap (λ t. xs ++ t) (drop-length z) ∙ append-nil xs
-
--- the local piece copied
-passed-on : (n : ℕ) (z xs r d : List ℕ) (to : ℕ) (d′ : List ℕ) → length z ≡ n → length xs ≡ n → r ≡ written z 0 xs → d′ ≡ written d to (take n (drop 0 r))
-    → d′ ≡ written d to xs
-passed-on n z xs r d to d′ lz lx q p =
-    p ∙ ap (λ t. written d to (take n (drop 0 t))) (q ∙ over z xs (omega arith)) ∙ ap (written d to) (take-all n xs (omega arith))
-
-pub piece-put : (n : ℕ) (z b : List ℕ) (from : ℕ) (r d : List ℕ) (to : ℕ) (d′ : List ℕ) → length z ≡ n → from + n ≤ length b
-    → r ≡ written z 0 (take n (drop from b)) → d′ ≡ written d to (take n (drop 0 r)) → d′ ≡ written d to (take n (drop from b))
-piece-put n z b from r d to d′ lz h q p = passed-on n z (take n (drop from b)) r d to d′ lz (length-take-le n (drop from b) (simp length-drop (omega arith))) q p
 
 pub as-put : (b : List ℕ) → Bytes b → (at : ℕ) → at + 8 ≤ length b → (z r d : List ℕ) (to : ℕ) (d′ : List ℕ) → length z ≡ 8
     → r ≡ written z 0 (take 8 (drop at b)) → d′ ≡ written d to (take 8 (drop 0 r)) → d′ ≡ written d to (octets8 (isdAsnAt b at .0))

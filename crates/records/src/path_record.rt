@@ -21,13 +21,7 @@ fn wide(x: u8) -> usize
 
 // ---- what stands before the infos
 
-// Where its parts stand.
-const INFOS: usize = 0;
-
-const HOPS: usize = 1;
-
-const INTERFACES: usize = 2;
-
+// Where its other parts stand.
 const ZERO: usize = 3;
 
 const MTU: usize = 4;
@@ -41,9 +35,9 @@ const LAST: usize = 18;
 pub fn path_head(path: &[u8]) -> Path
     ensures { λ r. ⌜ r ≡ pathHeadIn (now (path .entry)) ⌝ }
 {
-    let infos = octets::byte(path, INFOS);
-    let hops = octets::byte(path, HOPS);
-    let interfaces = octets::byte(path, INTERFACES);
+    let infos = octets::byte(path, Path::INFO_COUNT);
+    let hops = octets::byte(path, Path::HOP_COUNT);
+    let interfaces = octets::byte(path, Path::INTERFACE_COUNT);
     let mtu = octets::be16(path, MTU);
     let expiry = octets::be32(path, EXPIRY);
     let first = IsdAsn(octets::be64(path, FIRST));
@@ -54,9 +48,9 @@ pub fn path_head(path: &[u8]) -> Path
 fn put_counts(out: &mut [u8], infos: u8, hops: u8, interfaces: u8)
     ensures { λ _. ⌜ now (out .exit) ≡ written (now (out .entry)) 0 (infos ∷ hops ∷ interfaces ∷ 0 ∷ []) ⌝ }
 {
-    output::put_byte(out, INFOS, infos);
-    output::put_byte(out, HOPS, hops);
-    output::put_byte(out, INTERFACES, interfaces);
+    output::put_byte(out, Path::INFO_COUNT, infos);
+    output::put_byte(out, Path::HOP_COUNT, hops);
+    output::put_byte(out, Path::INTERFACE_COUNT, interfaces);
     output::put_byte(out, ZERO, 0);
 }
 
@@ -121,15 +115,15 @@ pub fn info_octets(i: InfoField) -> [u8; InfoField::SIZE]
 fn ases_offset(path: &[u8]) -> usize
     ensures { λ r. ⌜ (r ≡ asesOffset (now (path .entry))) × (r < 2 ^ 13) ⌝ }
 {
-    let infos = wide(octets::byte(path, INFOS));
-    let hops = wide(octets::byte(path, HOPS));
+    let infos = wide(octets::byte(path, Path::INFO_COUNT));
+    let hops = wide(octets::byte(path, Path::HOP_COUNT));
     Path::HEAD + InfoField::SIZE * infos + HopField::SIZE * hops
 }
 
 fn ids_offset(path: &[u8]) -> usize
     ensures { λ r. ⌜ (r ≡ idsOffset (now (path .entry))) × (r < 2 ^ 14) ⌝ }
 {
-    ases_offset(path) + PathInterface::AS * wide(octets::byte(path, INTERFACES))
+    ases_offset(path) + PathInterface::AS * wide(octets::byte(path, Path::INTERFACE_COUNT))
 }
 
 pub fn interface(path: &[u8], k: u8) -> PathInterface

@@ -14,6 +14,8 @@ const REFUSALS: u32 = 2;
 
 const ROUTES: u32 = 3;
 
+const WIRE: u32 = 4;
+
 // No number of the input's: it ends here, or is malformed.
 const NONE: u32 = 4294967295;
 
@@ -140,6 +142,16 @@ fn assemble(input: &[u8], record: &[u8], out: &mut [u8]) -> u32 {
     combinator::combinator_assemble(src, dst, book(input), record, out)
 }
 
+fn write(path: &[u8], out: &mut [u8]) -> u32 {
+    fill(out);
+    combinator::combinator_write(path, out)
+}
+
+fn read(wire: &[u8], out: &mut [u8]) -> u32 {
+    fill(out);
+    combinator::combinator_read(wire, out)
+}
+
 // ---- answers
 
 // Reads what assembly of one record must answer.
@@ -261,7 +273,7 @@ fn refusals(input: &[u8], out: &mut [u8], slots: &mut [u8]) -> usize {
 
 // ---- routes
 
-// What is answered: the count, or a refusal.
+// What is answered: the count, of routes or of bytes, or a refusal.
 fn number_wanted(refusal: u32, count: u32) -> u32 {
     if refusal == 0 {
         return count;
@@ -297,14 +309,56 @@ fn routed(input: &[u8], out: &mut [u8], records: &mut [u8]) -> usize {
     )
 }
 
+// ---- paths on the wire
+
+fn carry(call: u32, given: &[u8], out: &mut [u8]) -> u32 {
+    if call == 0 {
+        return write(given, out);
+    }
+    read(given, out)
+}
+
+fn carried_to(call: u32, given: &[u8], wanted: u32, bytes: &[u8], out: &mut [u8]) -> usize {
+    let answer = carry(call, given, out);
+    compared(answer, wanted, out, bytes)
+}
+
+// A case of wire.bin, after the path or the wire that is given.
+fn carried(given: &[u8], out: &mut [u8], bytes: &mut [u8]) -> usize {
+    let call = number(1);
+    let room = length(4);
+    let refusal = number(1);
+    let count = number(2);
+    let n = count as usize;
+    if !take(bytes, n) {
+        return BROKEN;
+    }
+    if 1 < call {
+        return BROKEN;
+    }
+    if out.len() < room {
+        return BROKEN;
+    }
+    carried_to(
+        call,
+        given,
+        number_wanted(refusal, count),
+        first(bytes, n),
+        &mut out[0..room],
+    )
+}
+
 // ---- labels and their cases
 
 fn case(kind: u32, input: &mut [u8], out: &mut [u8], slots: &mut [u8]) -> usize {
     let n = length(4);
-    if n < ENDS {
+    if !take(input, n) {
         return BROKEN;
     }
-    if !take(input, n) {
+    if kind == WIRE {
+        return carried(first(input, n), out, slots);
+    }
+    if n < ENDS {
         return BROKEN;
     }
     if kind == ANSWERS {
@@ -346,6 +400,9 @@ fn is_case(tag: u32) -> bool {
         return true;
     }
     if tag == ROUTES {
+        return true;
+    }
+    if tag == WIRE {
         return true;
     }
     tag == REFUSALS

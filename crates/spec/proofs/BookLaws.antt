@@ -130,11 +130,11 @@ module _ (b : List ℕ) (bytes : Bytes b) where
   unfolding be32
   be32-lt i = omega (arith, be16-lt i, be16-lt (i + 2))
 
-  mac-word : (at : ℕ) → be16 (macAt b at) 0 < 2 ^ 16
+  pub mac-word : (at : ℕ) → be16 (macAt b at) 0 < 2 ^ 16
   unfolding macAt be16
   mac-word at = omega (arith, bytes at, bytes (at + 1))
 
-  mac-six : (at : ℕ) → (l : List ℕ) × (macAt b at ≡ macAt l 0)
+  pub mac-six : (at : ℕ) → (l : List ℕ) × (macAt b at ≡ macAt l 0)
   unfolding macAt
   mac-six at = (macAt b at, refl)
 

@@ -123,7 +123,7 @@ unfolding pathOctets
 octets-split p = refl
 
 -- the record's length, from how many infos, hops and interfaces there are
-path-length : (p : CombinedPath) → ((h : HopField) → Mem h (p .hops) → GoodHop h)
+pub path-length : (p : CombinedPath) → ((h : HopField) → Mem h (p .hops) → GoodHop h)
     → length (pathOctets p) ≡ pathHeadSize + length (p .infos) * infoSize + length (p .hops) * hopSize + length (p .interfaces) * interfaceSize
 path-length p good =
     let infos : List ℕ = flatMap infoOctets (p .infos) in

@@ -47,7 +47,7 @@ module _ (xs ys : List ℕ) where
       ap₂ (λ a c. a * 2 ^ 8 + c) (getD-append-add xs ys i 0)
       (ap (λ n. getD (xs ++ ys) n 0) (add-assoc (length xs) i 1) ∙ getD-append-add xs ys (i + 1) 0)
 
-  be32-shift : (i : ℕ) → be32 (xs ++ ys) (length xs + i) ≡ be32 ys i
+  pub be32-shift : (i : ℕ) → be32 (xs ++ ys) (length xs + i) ≡ be32 ys i
   unfolding be32
   be32-shift i =
       ap₂ (λ a c. a * 2 ^ 16 + c) (be16-shift i)

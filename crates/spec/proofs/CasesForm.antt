@@ -5,7 +5,7 @@ use mathlib.Core.Bool.{Bool, true, _&&_}
 use mathlib.Core.List.{List, [], _∷_, _++_, map, flatMap}
 use lib.ListN.{length, replicate, take}
 use Rattle.spec.specs.declared.IsdAsn.{IsdAsn}
-use Rattle.spec.specs.Limits.{pathSize}
+use Rattle.spec.specs.Limits.{pathSize, wireSize}
 use Rattle.spec.specs.Basics.{sameList}
 use Rattle.spec.specs.Octets.{octets2, octets4, octets8}
 use Rattle.spec.specs.Book.{verdict}
@@ -16,6 +16,7 @@ use Rattle.spec.specs.Router.{routerIds}
 use Rattle.spec.specs.Answers.{Listed, Assembled, listing, assembly, verdictNumber, listNumber, pathNumber}
 use Rattle.spec.specs.Printed.{printed}
 use Rattle.spec.specs.Routes.{routing}
+use Rattle.spec.specs.Wire.{Carried, wireNumber, wireRouterIds, writing, reading}
 
 -- ---- books
 
@@ -83,6 +84,16 @@ pub data Question : Type 0 where
   sketch : List (List ℕ) → ℕ → ℕ → Question
   -- the ids that a router holds at the hops of that path
   hold : List ℕ → ℕ → ℕ → List ℕ → Question
+  -- a path record as bytes on the wire, and such bytes as a record, in so many bytes
+  write : List ℕ → ℕ → Question
+  read : List ℕ → ℕ → Question
+  -- of one record after the other, and of one list of bytes after the other: the number answered
+  writes : List (List ℕ) → Question
+  reads : List (List ℕ) → Question
+  -- the path of a solution record as bytes on the wire
+  send : List ℕ → ℕ → ℕ → List ℕ → Question
+  -- the ids that a router holds at the hops, by the bytes on the wire
+  carry : List ℕ → Question
   -- how many solutions fit in so many bytes?
   room : ℕ → Question
   -- how long does a hop of so many units live?
@@ -118,6 +129,18 @@ answer digest (least books src dst) =
 answer digest (sketch books src dst) =
     flatMap (λ b. flatMap (λ c. sketchOf (combinedPath b c)) (solutions digest b (isdAsn src) (isdAsn dst))) books
 answer digest (hold b src dst given) = routerIds (assembly b (isdAsn src) (isdAsn dst) given pathSize .1)
+answer digest (write path bytes) =
+    let w : Carried = writing path bytes in
+    wireNumber (w .0) ∷ w .1
+answer digest (read wire bytes) =
+    let r : Carried = reading wire bytes in
+    wireNumber (r .0) ∷ r .1
+answer digest (writes paths) = map (λ path. wireNumber (writing path wireSize .0)) paths
+answer digest (reads wires) = map (λ wire. wireNumber (reading wire pathSize .0)) wires
+answer digest (send b src dst given) =
+    let w : Carried = writing (assembly b (isdAsn src) (isdAsn dst) given pathSize .1) wireSize in
+    wireNumber (w .0) ∷ w .1
+answer digest (carry wire) = wireRouterIds wire
 answer digest (room bytes) = slots bytes ∷ []
 answer digest (live units) = life units ∷ []
 

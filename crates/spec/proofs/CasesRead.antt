@@ -13,6 +13,7 @@ use Rattle.spec.proofs.CasesForm.{Case, answer, right, every}
 use Rattle.spec.proofs.Cases
 use Rattle.spec.proofs.PinnedCases
 use Rattle.spec.proofs.RouteCases
+use Rattle.spec.proofs.WireCases
 use Rattle.spec.proofs.AddedCases
 
 every-mem : (p : Case → Bool) (cs : List Case) → T (every p cs) → (c : Case) → Mem c cs → p c ≡ true
@@ -46,3 +47,7 @@ added-answer = answered AddedCases.unhashed added (both .0)
 
 pub hashed-answer : (c : Case) → Mem c AddedCases.hashed → answer sha256 (c .question) ≡ c .expected
 hashed-answer = answered sha256 AddedCases.hashed (both .1)
+
+-- the fifth table, for every digest
+pub wire-answer : (digest : List ℕ → List ℕ) (c : Case) → Mem c (WireCases.table ++ WireCases.bytewise) → answer digest (c .question) ≡ c .expected
+wire-answer digest = answered digest (WireCases.table ++ WireCases.bytewise) (WireCases.all-right digest)

@@ -7,6 +7,7 @@ use Rattle.spec.specs.Octets.{Bytes}
 use Rattle.spec.specs.Demand1.{Demand1}
 use Rattle.spec.proofs.LengthLaws.{list-length, list-refused, assembly-clean}
 use Rattle.spec.proofs.RouteLaws.{routing-length, routing-zeros}
+use Rattle.spec.proofs.WireLaws.{writing-length, writing-zeros, reading-length, reading-zeros}
 
 pub demand-1 : (digest : List ℕ → List ℕ) (b : List ℕ) → Bytes b → (src dst : IsdAsn) (given : List ℕ) (bytes : ℕ) → Demand1 digest b src dst given bytes
 demand-1 digest b bs src dst given bytes =
@@ -18,4 +19,8 @@ demand-1 digest b bs src dst given bytes =
       routes-refused = routing-zeros digest b src dst bytes;
       path-length = a .size;
       path-none = a .none;
+      write-length = writing-length given bytes;
+      write-refused = writing-zeros given bytes;
+      read-length = reading-length given bytes;
+      read-refused = reading-zeros given bytes;
     }

@@ -31,7 +31,7 @@ module _ (b : List ℕ) where
       ∙ simp add-assoc
 
   module _ (bytes : Bytes b) where
-    be16-bytes : (i : ℕ) → i + 2 ≤ length b → take 2 (drop i b) ≡ octets2 (be16 b i)
+    pub be16-bytes : (i : ℕ) → i + 2 ≤ length b → take 2 (drop i b) ≡ octets2 (be16 b i)
     unfolding octets2 be16
     be16-bytes i h = two i h ∙ ap₂ (λ x y. x ∷ y ∷ []) (omega (arith, bytes i, bytes (i + 1))) (omega (arith, bytes i, bytes (i + 1)))
 
@@ -39,7 +39,7 @@ module _ (b : List ℕ) where
     pub be16s-bytes : (i : ℕ) → i + 4 ≤ length b → take 4 (drop i b) ≡ octets2 (be16 b i) ++ octets2 (be16 b (i + 2))
     be16s-bytes i h = bytes-split 2 2 i ∙ ap₂ (λ x y. x ++ y) (be16-bytes i (omega arith)) (be16-bytes (i + 2) (omega arith))
 
-    be32-bytes : (i : ℕ) → i + 4 ≤ length b → take 4 (drop i b) ≡ octets4 (be32 b i)
+    pub be32-bytes : (i : ℕ) → i + 4 ≤ length b → take 4 (drop i b) ≡ octets4 (be32 b i)
     unfolding octets4 be32
     be32-bytes i h =
         let q = be16-lt b bytes (i + 2) in

@@ -65,7 +65,7 @@ module _ (b : List ℕ) where
 
 -- ---- the record's bytes
 
-regroup : (h i k x y z : List ℕ) → ((((h ++ i) ++ k) ++ x) ++ y) ++ z ≡ h ++ (i ++ (k ++ (x ++ (y ++ z))))
+pub regroup : (h i k x y z : List ℕ) → ((((h ++ i) ++ k) ++ x) ++ y) ++ z ≡ h ++ (i ++ (k ++ (x ++ (y ++ z))))
 regroup h i k x y z = simp append-assoc
 
 regroup′ : (h i k x y z : List ℕ) → ((((h ++ i) ++ k) ++ x) ++ y) ++ z ≡ (h ++ i) ++ (k ++ (x ++ (y ++ z)))

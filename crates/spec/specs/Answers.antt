@@ -7,7 +7,7 @@ use lib.Dec.{ltb}
 use Rattle.spec.specs.declared.IsdAsn.{IsdAsn}
 use Rattle.spec.specs.declared.Edge.{Edge}
 use Rattle.spec.specs.declared.Refusal.{Refusal}
-use Rattle.spec.specs.declared.Refusal.the-variants.{Cut, Surplus, Oversize, Crowded, Long, Peers, Misfit, Full, Small, Stranger, Twice}
+use Rattle.spec.specs.declared.Refusal.the-variants.{Cut, Surplus, Oversize, Crowded, Long, Peers, Misfit, Full, Small, Stranger, Twice, Wire}
 use Rattle.spec.specs.declared.Verdict.{Verdict}
 use Rattle.spec.specs.declared.Verdict.the-variants.{Accepted, Refused as RefusedBook}
 use Rattle.spec.specs.declared.ListAnswer.{ListAnswer}
@@ -35,6 +35,7 @@ refusalNumber Full = 8
 refusalNumber Small = 9
 refusalNumber Stranger = 10
 refusalNumber Twice = 11
+refusalNumber Wire = 12
 
 -- 9.8: the answer about a book as a number: 0 for an accepted one, or the refusal's
 abbrev pub verdictNumber : Verdict → ℕ

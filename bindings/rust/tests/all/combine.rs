@@ -1,14 +1,15 @@
 //! Segments in, paths out.
 
 use combinator::{
-    assemble, combine, combine_routes, list, paths, route_paths, AsEntry, BookWriter, HopField,
-    IsdAsn, OwnedPath, OwnedSegment, Path, Refusal, Solution, MAX_BOOK, MAX_ENTRIES, MAX_SEGMENTS,
-    MAX_SOLUTIONS,
+    assemble, combine, combine_routes, list, paths, read, route_paths, AsEntry, BookWriter,
+    HopField, IsdAsn, OwnedPath, OwnedSegment, Path, Refusal, Solution, MAX_BOOK, MAX_ENTRIES,
+    MAX_SEGMENTS, MAX_SOLUTIONS,
 };
 
 use crate::{
-    common::{decode, worked},
+    common::{bytes, decode, worked},
     routes::reissued,
+    wire::WORKED,
     worked::{DST, SRC},
 };
 
@@ -22,6 +23,11 @@ fn worked_is_combined() {
     let interfaces: Vec<_> = path.interfaces().map(|i| i.to_string()).collect();
     assert_eq!(interfaces, ["1-ff00:0:111#7", "1-ff00:0:110#5"]);
     assert_eq!(format!("{:?}", got[0]), format!("{path:?}"));
+    let wire = path.encode_to_vec();
+    assert_eq!(wire, bytes(WORKED));
+    let back = OwnedPath::from(read(&wire, &mut [0; Path::SIZE]).unwrap());
+    assert!(back.as_path().hops().eq(path.hops()));
+    assert_eq!(back.as_path().encode_to_vec(), wire);
 
     let mut slots = [0; Solution::SIZE];
     let solution = list(SRC, DST, &worked(), &mut slots).unwrap().get(0);

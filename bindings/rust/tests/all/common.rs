@@ -16,11 +16,20 @@ const WORKED: &str = "
 ";
 
 pub fn worked() -> Vec<u8> {
-    let digits: Vec<u32> = WORKED.chars().filter_map(|c| c.to_digit(16)).collect();
+    bytes(WORKED)
+}
+
+/// The bytes of hex digits, which may stand apart.
+pub fn bytes(text: &str) -> Vec<u8> {
+    let digits: Vec<u32> = text.chars().filter_map(|c| c.to_digit(16)).collect();
     digits
         .chunks_exact(2)
         .map(|d| (d[0] << 4 | d[1]) as u8)
         .collect()
+}
+
+pub fn zero(bytes: &[u8]) -> bool {
+    bytes.iter().all(|b| *b == 0)
 }
 
 /// Bytes that are taken from the front.

@@ -1,5 +1,5 @@
-//! The crate against the library, with nothing from outside the package: the worked example, routes, the
-//! writer of books, refusals, text forms.
+//! The crate against the library, with nothing from outside the package: the worked example, routes, paths
+//! on the wire, the writer of books, refusals, text forms.
 
 mod book;
 #[cfg(feature = "alloc")]
@@ -8,4 +8,5 @@ mod common;
 mod refusal;
 mod routes;
 mod text;
+mod wire;
 mod worked;

@@ -16,8 +16,8 @@ fn numbers_and_words() {
         );
     }
     assert_eq!(Refusal::from_number(0), None);
-    assert_eq!(Refusal::from_number(11), Some(Refusal::Twice));
-    assert_eq!(Refusal::from_number(12), None);
+    assert_eq!(Refusal::from_number(12), Some(Refusal::Wire));
+    assert_eq!(Refusal::from_number(13), None);
 }
 
 /// Refusals and text errors serve where errors are boxed.
@@ -31,6 +31,10 @@ fn errors() {
     assert_eq!(
         Refusal::Twice.to_string(),
         "refused 11 Twice: an entry's AS stands earlier in the same segment"
+    );
+    assert_eq!(
+        Refusal::Wire.to_string(),
+        "refused 12 Wire: the path has no form on the wire, or no path has these bytes"
     );
     let text: Box<dyn std::error::Error> = combinator::ParseError.into();
     assert_eq!(

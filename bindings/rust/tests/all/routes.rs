@@ -6,7 +6,7 @@ use combinator::{
 };
 
 use crate::{
-    common::worked,
+    common::{worked, zero},
     worked::{DST, SRC},
 };
 
@@ -83,7 +83,7 @@ fn the_longest_lived_is_kept() {
         expiries.push(answer.path().unwrap().expiry());
     }
     assert_eq!(expiries, [3337, 837]);
-    assert!(slots[2 * Solution::SIZE..].iter().all(|b| *b == 0));
+    assert!(zero(&slots[2 * Solution::SIZE..]));
 }
 
 /// By one segment, or by two that show the same interfaces: up to X by a shortcut, which lives as long, or
@@ -136,7 +136,7 @@ fn refused() {
     let short = room.len() - 1;
     let refused = routes(SRC, DST, &book, &mut room[..short]);
     assert_eq!(refused, Err(Refusal::Full));
-    assert!(room[..short].iter().all(|b| *b == 0));
+    assert!(zero(&room[..short]));
     let enough = routes(SRC, DST, &book, &mut room).map(|s| s.len());
     assert_eq!(enough, Ok(2));
     assert_eq!(routes(SRC, DST, &[], &mut []), Err(Refusal::Cut));

@@ -1,9 +1,14 @@
-//! The files of tests/stored: answers of the Rust, and refusals.
+//! The files of tests/stored: answers of the Rust, refusals, and paths on the wire.
 
-use combinator::{assemble, list, routes, Assembled, IsdAsn, Path, Refusal, Solution, LIST_SIZE};
+use std::collections::BTreeSet;
+
+use combinator::{
+    assemble, list, read, routes, write, Assembled, HopField, IsdAsn, Path, Refusal, Solution,
+    LIST_SIZE, MAX_EDGES, WIRE_SIZE,
+};
 
 use crate::{
-    common::{Reader, AS_SIZE},
+    common::{zero, Reader, AS_SIZE},
     file,
 };
 
@@ -23,10 +28,6 @@ fn input<'a>(r: &mut Reader<'a>) -> Input<'a> {
     }
 }
 
-fn zero(bytes: &[u8]) -> bool {
-    bytes.iter().all(|b| *b == 0)
-}
-
 /// The record of a solution, laid out anew from what its view says.
 fn record(s: &Solution) -> Vec<u8> {
     let mut bytes = s.cost().to_be_bytes().to_vec();
@@ -36,6 +37,14 @@ fn record(s: &Solution) -> Vec<u8> {
         bytes.extend([e.position, e.shortcut, peer, e.construction as u8]);
     }
     bytes.resize(Solution::SIZE, 0);
+    bytes
+}
+
+fn hop(h: &HopField) -> Vec<u8> {
+    let mut bytes = vec![h.units];
+    bytes.extend(h.ingress.to_be_bytes());
+    bytes.extend(h.egress.to_be_bytes());
+    bytes.extend(h.mac);
     bytes
 }
 
@@ -53,16 +62,31 @@ fn path(p: &Path) -> Vec<u8> {
         bytes.extend(i.timestamp.to_be_bytes());
     }
     for h in p.hops() {
-        bytes.push(h.units);
-        bytes.extend(h.ingress.to_be_bytes());
-        bytes.extend(h.egress.to_be_bytes());
-        bytes.extend(h.mac);
+        bytes.extend(hop(&h));
     }
     for i in p.interfaces() {
         bytes.extend(i.isd_asn.0.to_be_bytes());
     }
     for i in p.interfaces() {
         bytes.extend(i.id.to_be_bytes());
+    }
+    bytes
+}
+
+/// The bytes of a path on the wire, laid out from what its view says.
+fn wire(p: &Path) -> Vec<u8> {
+    let mut lengths = p.infos().map(|i| u32::from(i.hops));
+    let mut next = || lengths.next().unwrap_or(0);
+    let meta = next() << 12 | next() << 6 | next();
+    let mut bytes = meta.to_be_bytes().to_vec();
+    for i in p.infos() {
+        bytes.extend([i.flags(), 0]);
+        bytes.extend(i.id.to_be_bytes());
+        bytes.extend(i.timestamp.to_be_bytes());
+    }
+    for h in p.hops() {
+        bytes.push(0);
+        bytes.extend(hop(&h));
     }
     bytes
 }
@@ -145,6 +169,34 @@ fn answers_are_given() {
     assert!(counts.iter().all(|n| *n > 0), "{counts:?}");
 }
 
+/// Every path is written, and read back but for what the wire does not have.
+#[test]
+fn paths_on_the_wire() {
+    let mut counts = [0; MAX_EDGES];
+    for (_, record) in cases(&answers()).flat_map(|case| case.answers) {
+        // A Loop or a Bare has no record.
+        if record.is_empty() {
+            continue;
+        }
+        let mut out = [0xa5; WIRE_SIZE];
+        let bytes = write(record, &mut out).unwrap().to_vec();
+        assert!(zero(&out[bytes.len()..]));
+
+        // The record up to its interfaces, with zeros but for the counts of infos and hops.
+        let interfaces = usize::from(record[2]);
+        let mut want = record[..record.len() - 10 * interfaces].to_vec();
+        want[2..26].fill(0);
+        let mut room = [0xa5; Path::SIZE];
+        let back = read(&bytes, &mut room).unwrap();
+        assert_eq!(back.as_bytes(), want);
+        assert_eq!(wire(&back), bytes);
+        assert_eq!(back.encode(&mut out), bytes);
+        counts[back.infos().len() - 1] += 1;
+        assert!(zero(&room[want.len()..]));
+    }
+    assert!(counts.iter().all(|n| *n > 0), "{counts:?}");
+}
+
 /// A record, and of its path the expiry and the bytes of the interfaces.
 struct Held<'a> {
     record: &'a [u8],
@@ -214,7 +266,7 @@ fn combined() {
 fn refusals_are_given() {
     let stored = file("tests/stored/refusals.bin");
     let mut r = Reader(&stored);
-    let mut seen = Vec::new();
+    let mut seen = BTreeSet::new();
     while !r.0.is_empty() {
         let Input { src, dst, book } = input(&mut r);
         let listing = r.u8() == 0;
@@ -234,8 +286,37 @@ fn refusals_are_given() {
         assert_eq!(got, want);
         if let Some(refusal) = want {
             assert!(zero(&out));
-            seen.push(refusal);
+            seen.insert(refusal);
         }
     }
-    assert!(Refusal::ALL.iter().all(|refusal| seen.contains(refusal)));
+    // Wire is about no book.
+    let others = Refusal::ALL.into_iter().filter(|r| *r != Refusal::Wire);
+    assert!(others.eq(seen));
+}
+
+#[test]
+fn wire_is_given() {
+    let stored = file("tests/stored/wire.bin");
+    let mut r = Reader(&stored);
+    let mut seen = BTreeSet::new();
+    while !r.0.is_empty() {
+        let len = r.len(4);
+        let given = r.take(len);
+        let writing = r.u8() == 0;
+        let mut out = vec![0xa5; r.len(4)];
+        let refusal = Refusal::from_number(r.u8());
+        let len = r.len(2);
+        let want = r.take(len);
+        let got = if writing {
+            write(given, &mut out)
+        } else {
+            read(given, &mut out).map(|p| p.as_bytes())
+        };
+        assert_eq!(got, refusal.map_or(Ok(want), Err));
+        assert!(zero(&out[want.len()..]));
+        seen.insert((writing, refusal));
+    }
+    let answers = [None, Some(Refusal::Small), Some(Refusal::Wire)];
+    let each = [false, true].map(|writing| answers.map(|refusal| (writing, refusal)));
+    assert!(seen.into_iter().eq(each.into_iter().flatten()));
 }

@@ -2,7 +2,7 @@
 -- Assumes nothing.
 use mathlib.Core.Path.{refl}
 use Rattle.spec.specs.Limits.{hopSize}
-use Rattle.path.proofs.Copies.{piece-put}
+use Rattle.output.proofs.Writing.{piece-put}
 use borrow.Author.Needs.{needs}
 use Rattle.path.proofs.entry.put_peer_hop.Statement.{statement}
 use Rattle.path.proofs.entry.put_peer_hop.Tie as tie
