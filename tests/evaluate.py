@@ -7,10 +7,12 @@ answers is worth as much as its agreement with the prover, which `plant` without
 import re
 import sys
 from functools import partial  # noqa: F401 (the functions made use it)
+from itertools import pairwise, product
 
 sys.setrecursionlimit(100000)
 TOK = re.compile('\\s+|(?P<str>"(?:[^"\\\\]|\\\\.)*")|(?P<num>0x[0-9a-f_]+|\\d+)(?![\\w·])|(?P<proj>\\.(?:«\\w+»|\\w+))|(?P<op>[(){};,])|(?P<name>[^\\s(){};,"]+)')
-FILES = ['Limits', 'Basics', 'Octets', 'Book', 'Edges', 'Chains', 'Order', 'Assembly', 'Records', 'Router', 'Answers', 'Printed', 'Routes', 'Wire']
+FILES = ['Limits', 'Basics', 'Octets', 'Book', 'Edges', 'Chains', 'Order', 'Digests', 'Assembly', 'Records', 'ByRecord', 'Router', 'Answers', 'Printed', 'Routes',
+         'Wire']
 
 
 def toks(t):
@@ -32,7 +34,7 @@ def toks(t):
 PREC = {'||': 1, '&&': 2, 'thenBy': 3, 'andThen': 3, '++': 4, '∷': 5, '+': 6, '-': 6, '*': 7, '/': 7, '%': 7, '^': 8}
 RIGHT = {'||', '&&', 'thenBy', 'andThen', '++', '∷', '^'}
 KW = {'then', 'else', 'in', 'if', 'let', '=', ':'}
-NATIVE = {'getD': ('N_getD', 3), 'take': ('N_take', 2), 'drop': ('N_drop', 2), 'length': ('len', 1), 'replicate': ('N_rep', 2), 'map': ('N_map', 2), 'flatMap': ('N_flat', 2), 'reverse': ('N_rev', 1), 'ltb': ('N_ltb', 2), 'eqb': ('N_eqb', 2), 'not': ('N_not', 1), 'min': ('min', 2), 'compare': ('N_cmp', 2), 'bitXor': ('N_xor', 2), 'code': ('N_code', 1), 'suc': ('N_suc', 1)}
+NATIVE = {'getD': ('N_getD', 3), 'take': ('N_take', 2), 'drop': ('N_drop', 2), 'length': ('len', 1), 'replicate': ('N_rep', 2), 'map': ('N_map', 2), 'flatMap': ('N_flat', 2), 'reverse': ('N_rev', 1), 'ltb': ('N_ltb', 2), 'eqb': ('N_eqb', 2), 'not': ('N_not', 1), 'min': ('min', 2), 'compare': ('N_cmp', 2), 'bitXor': ('N_xor', 2), 'code': ('N_code', 1), 'suc': ('N_suc', 1), 'isEq': ('N_isEq', 1)}
 CONST = {'true': 'True', 'false': 'False', '[]': '()', 'zero': '0', 'Ordering·lt': '-1', 'Ordering·eq': '0', 'Ordering·gt': '1', 'tt': 'None'}
 CONS = {'AS': 1, 'Peering': 4, 'Accepted': 0, 'Refused': 1, 'RefusedBook': 1, 'RefusedList': 1, 'RefusedPath': 1, 'Count': 1, 'Path': 0, 'Loop': 0, 'Bare': 0, **{r: 0 for r in 'Cut Surplus Oversize Crowded Long Peers Misfit Full Small Stranger Twice Wire'.split()}}
 
@@ -96,6 +98,10 @@ def N_code(c):
 
 def N_suc(n):
     return n + 1
+
+
+def N_isEq(o):
+    return o == 0
 
 
 def py(name):
@@ -473,6 +479,11 @@ def answer(g, digest, w):
         return [number(g['f_reading'](t(x), g['f_pathSize']())) for x in w[1]]
     if k == 'carry':
         return list(g['f_wireRouterIds'](t(w[1])))
+    compared = lambda order, digests, pairs: [x for c, d in pairs for x in (g[order](digest, t(w[1]), c, d) + 1, g[digests](digest, t(w[1]), c, d))]
+    if k == 'compared':
+        return compared('f_compareRecords', 'f_recordDigests', pairwise(map(t, w[2])))
+    if k == 'comparedAll':
+        return compared('f_compareChains', 'f_chainDigests', product(g['f_solutions'](digest, t(w[1]), asn(w[2]), asn(w[3])), repeat=2))
     if k == 'room':
         return [g['f_slots'](w[1])]
     if k == 'live':

@@ -1,5 +1,5 @@
 #!/usr/bin/env python3
-"""A small model of listing, assembly, routes, paths on the wire and the printed list, written from docs/SPECIFICATION.md alone.
+"""A small model of listing, comparison, assembly, routes, paths on the wire and the printed list, written from docs/SPECIFICATION.md alone.
 
 It shares no code with crates/, and with tools/ only the layout of the bytes: tests and examples use it to tell what the others should answer. Run
 as a program it stands in for `list`: source, destination and book on standard input, the printed list on standard output.
@@ -11,7 +11,7 @@ from collections import Counter, namedtuple
 
 sys.path.insert(0, os.path.join(os.path.dirname(os.path.abspath(__file__)), "..", "tools"))
 from booktext import layout  # noqa: E402
-from booktext.layout import CONSTRUCTION, COUNTS, ENDS, ENTRY, HEAD, HOP, INFO, PATH_HEAD, PEER, PEERING, FINGERPRINTED  # noqa: E402
+from booktext.layout import CONSTRUCTION, COUNTS, EDGE, ENDS, ENTRY, HEAD, HOP, INFO, PATH_HEAD, PEER, PEERING, FINGERPRINTED, RECORD_HEAD  # noqa: E402
 from booktext.layout import WIRE_HOP, WIRE_INFO, WIRE_META  # noqa: E402
 
 Segment = namedtuple("Segment", "position core timestamp id entries")
@@ -156,6 +156,46 @@ def place(chain):
 
 def solutions(book, source, destination):
     return sorted(chains(segments(book), source, destination), key=place)
+
+
+# ---- comparison of two records, of any bytes as book and records: docs/SPECIFICATION.md 5 and 8
+
+def laid(record, data, place):
+    """What stands at a place; a byte past the end is 0."""
+    return record.unpack(data[place:place + record.size].ljust(record.size, b"\0"))
+
+
+def fingerprint_at(book, position):
+    """Head and body are read where 2.2 and 2.3 place them, also at a position that the sizes do not count. Of the entries past the most that a segment
+    may have nothing is taken in."""
+    counts = laid(COUNTS, book, 0)
+    heads = [laid(HEAD, book, COUNTS.size + HEAD.size * q) for q in range(position + 1)]
+    at = COUNTS.size + HEAD.size * (counts.cores + counts.non_cores) + sum(head.body_length for head in heads[:-1])
+    message = b""
+    for _ in range(min(heads[-1].entry_count, layout.MAX_ENTRIES)):
+        entry = laid(ENTRY, book, at)
+        message += FINGERPRINTED.pack(entry.isd_as, entry.ingress, entry.egress)
+        at += ENTRY.size + PEER.size * entry.peer_count
+    return hashlib.sha256(message).digest()
+
+
+def compare(book, a, b):
+    """How record a stands to record b, -1 before it, 0 the same, 1 after it; and how many fingerprints that takes: two for each pair of edges at two
+    positions that all keys before leave equal."""
+    one, other = (laid(RECORD_HEAD, r, 0) for r in (a, b))
+    pairs = [[laid(EDGE, r, RECORD_HEAD.size + EDGE.size * k) for r in (a, b)] for k in range(layout.MAX_EDGES)]
+    # The keys in turn: of both records, and how many fingerprints are worked out to tell the two apart.
+    keys = [(one.cost, other.cost, 0), (one.edge_count, other.edge_count, 0)]
+    for e, f in pairs:
+        keys += [(e.peer, f.peer, 0), (-e.shortcut, -f.shortcut, 0)]
+        keys.append((fingerprint_at(book, e.position), fingerprint_at(book, f.position), 0 if e.position == f.position else 2))
+    keys += [(e.position, f.position, 0) for e, f in pairs]
+    digests = 0
+    for x, y, worked_out in keys:
+        digests += worked_out
+        if x != y:
+            return -1 if x < y else 1, digests
+    return 0, digests
 
 
 # ---- assembly: docs/SPECIFICATION.md 6

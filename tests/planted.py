@@ -2,8 +2,9 @@
 """Wrong definitions made by rule, in the form of planted.edits, on standard output: for `plant FILE`.
 
 Every rule of a hop at every place of the hop, in both directions, on every kind of edge; every part of an info so; every part of a path on
-every edge of a chain; every key of the order on every edge of a chain; every number of a stored edge, by its entry and peer. Left out are
-places that no chain has. On the wire every byte of an info and of a hop, by its number there, read or written as 0; every bit that must be 0.
+every edge of a chain; every key of the order on every edge of a chain, and of a record; what is worked out for every pair of edges, and what
+follows it; every number of a stored edge, by its entry and peer. Left out are places that no chain has. On the wire every byte of an info and of
+a hop, by its number there, read or written as 0; every bit that must be 0.
 """
 PLACES = {
     "the leaf": "eqb (i + 1) (length (seg .entries)) && not (atShortcut e i)",
@@ -82,6 +83,27 @@ AS_EDGES = {"up": ("leaf there", " ∷ edgeOf"), "down": ("there leaf", " ∷ []
 PEER_EDGES = {"up": ("leaf (Peering local (link .hop .ingress) (link .peer) (link .interface))", "n - i"),
               "down": ("(Peering (link .peer) (link .interface) local (link .hop .ingress)) leaf", "n - 1 - i")}
 
+# Of a pair of edges: how many fingerprints are worked out, and whether the next pair is looked at; by how many edges are left.
+PAIRS = {"pair 1": 2, "pair 2": 1, "pair 3": 0}
+SAME_PEER, SAME_SHORTCUT, SAME_POSITION = (f"eqb (e .{key}) (f .{key})" for key in ("peer", "shortcut", "position"))
+LEFT_EQUAL = "isEq (compareEdges digest b e f)"
+WORKED_OUT = {
+    "one is counted": "if HERE then pairDigests e f / 2 else pairDigests e f",
+    "nothing is counted": "if HERE then 0 else pairDigests e f",
+    "one position is counted": f"if HERE && {SAME_PEER} && {SAME_SHORTCUT} then 2 else pairDigests e f",
+    "counted where the peer decides": f"if HERE && {SAME_SHORTCUT} && not ({SAME_POSITION}) then 2 else pairDigests e f",
+    "counted where the shortcut decides": f"if HERE && {SAME_PEER} && not ({SAME_POSITION}) then 2 else pairDigests e f",
+    "equal fingerprints are not counted": f"if HERE && {LEFT_EQUAL} then 0 else pairDigests e f",
+    "different fingerprints are not counted": f"if HERE && not ({LEFT_EQUAL}) then 0 else pairDigests e f",
+}
+NEXT = {
+    "the next is counted where the peer decides": f"{LEFT_EQUAL} || (HERE && not ({SAME_PEER}))",
+    "the next is counted where the shortcut decides": f"{LEFT_EQUAL} || (HERE && not ({SAME_SHORTCUT}))",
+    "the next is counted where the fingerprint decides": f"{LEFT_EQUAL} || (HERE && {SAME_PEER} && {SAME_SHORTCUT})",
+    "the next is not counted after one position": f"{LEFT_EQUAL} && not (HERE && {SAME_POSITION})",
+    "the next is not counted after equal fingerprints": f"{LEFT_EQUAL} && not (HERE && not ({SAME_POSITION}))",
+}
+
 # On the wire: what must be 0, its bits, its text, and the number that has the bits; the text of what is read and written, with the number of an info or hop.
 ZERO = {
     "the current info": (range(30, 32), "currentInfo w = NUMBER / 2 ^ 30", "be32 w 0"),
@@ -106,6 +128,14 @@ def possible(where, place, kind):
     if place == "the leaf that is the shortcut" and not peer:
         return False
     return {None: True, AT_PEER: peer and at, AT_SHORTCUT: hidden, "shown": not hidden, REGULAR: not hidden and not (peer and at)}[where]
+
+
+def key_orders(key, fingerprint):
+    """The keys of an edge with one of them lost, reversed or taken first; and how the fingerprint of a position is said there."""
+    right, others = KEYS[key][0], [r for k, (r, _) in KEYS.items() if k != key]
+    orders = {"lost": others, "reversed": [wrong if k == key else r for k, (r, wrong) in KEYS.items()], "before the other keys": [right] + others}
+    return {how: " thenBy ".join(keys).replace("fingerprint (", f"{fingerprint} (") for how, keys in orders.items()
+            if key != "peer" or how != "before the other keys"}
 
 
 def plant(said, *changes):
@@ -168,13 +198,37 @@ def main():
                         f"thenBy compareBy {before} (drop {at + 1} es) (drop {at + 1} fs) else compareBy {before} es fs)")
 
             one, old = f"edge {at + 1} of {count}", "thenBy compareBy compareEdges es fs"
-            for key, (right, wrong) in KEYS.items():
-                others = [r for k, (r, _) in KEYS.items() if k != key]
-                orders = {"lost": others, "reversed": [wrong if k == key else r for k, (r, _) in KEYS.items()], "before the other keys": [right] + others}
-                for how, keys in orders.items():
-                    if key != "peer" or how != "before the other keys":
-                        plant(f"{key} {how} on {one}", (old, on(f"(λ x y. {' thenBy '.join(keys)})", "compareEdges")), lists)
+            for key in KEYS:
+                for how, keys in key_orders(key, "fingerprint").items():
+                    plant(f"{key} {how} on {one}", (old, on(f"(λ x y. {keys})", "compareEdges")), lists)
             plant(f"positions reversed on {one}", ("thenBy compareBy comparePositions es fs", on("comparePositions", "comparePositions", True)), lists)
+    print("file: specs/Digests.antt")
+    words = ("use mathlib.Core.Bool.{_&&_, not}", "use mathlib.Core.Bool.{_&&_, _||_, not}")
+    half = ("use Prim.Native.Nat.{ℕ, _+_}", "use Prim.Native.Nat.{ℕ, _+_, _/_}")
+    for pair, left in PAIRS.items():
+        here = f"eqb (length es) {left}"
+        for wrong, new in WORKED_OUT.items():
+            plant(f"comparison: {wrong}, {pair}", ("pairDigests e f + (if", f"({new.replace('HERE', here)}) + (if"), half)
+        for wrong, new in NEXT.items() if left else ():
+            plant(f"comparison: {wrong}, {pair}", (f"if {LEFT_EQUAL} then rest", f"if {new.replace('HERE', here)} then rest"), words)
+    print("file: specs/ByRecord.antt")
+    lists = ("use lib.Dec.{eqb, isEq}", "use lib.ListN.{take, drop}\\nuse lib.Dec.{eqb, isEq}")
+    names = ("use Rattle.spec.specs.Order.{_thenBy_, compareBy, compareEdges, comparePositions}",
+             "use Rattle.spec.specs.Order.{_thenBy_, compareBy, fingerprint, compareEdges, comparePositions}")
+    es, fs = "(solutionIn r .edges)", "(solutionIn s .edges)"
+    for at, pair in enumerate(PAIRS):
+        def of(compare, before):
+            return (f"thenBy compareBy {before} (take {at} {es}) (take {at} {fs})"
+                    + (f" thenBy compareBy {compare} (take 1 (drop {at} {es})) (take 1 (drop {at} {fs}))" if compare else "")
+                    + f" thenBy compareBy {before} (drop {at + 1} {es}) (drop {at + 1} {fs})")
+
+        for key in KEYS:
+            for how, keys in key_orders(key, "fingerprint digest b").items():
+                plant(f"comparison: {key} {how} on {pair}",
+                      (f"thenBy compareBy (compareEdges digest b) {es} {fs}", of(f"(λ x y. {keys})", "(compareEdges digest b)")), lists, names)
+        for how, compare in {"lost": "", "reversed": "(λ x y. comparePositions digest b y x)"}.items():
+            plant(f"comparison: positions {how} on {pair}",
+                  (f"thenBy compareBy (comparePositions digest b) {es} {fs}", of(compare, "(comparePositions digest b)")), lists)
     print("file: specs/Wire.antt")
     lists = ("use lib.ListN.{length, getD, replicate}", "use lib.ListN.{length, getD, replicate, take, drop}")
     for what, (bits, text, number) in ZERO.items():

@@ -1,4 +1,4 @@
-"""The forms of answers.bin, refusals.bin, routes.bin, wire.bin and of what the program that replays them reads (README.md)."""
+"""The forms of answers.bin, refusals.bin, routes.bin, wire.bin, comparisons.bin and of what the program that replays them reads (README.md)."""
 import os
 import sys
 
@@ -7,7 +7,7 @@ sys.path[:0] = [os.path.join(HERE, "..", "..", "tools"), os.path.join(HERE, ".."
 from batch import FRONT, framed  # noqa: E402
 from booktext.layout import ENDS, RECORD_SIZE, Field, Record  # noqa: E402
 
-LABEL, ANSWERED, CALLED, ASKED, CARRIED = range(5)      # tags of the items that the program reads
+LABEL, ANSWERED, CALLED, ASKED, CARRIED, COMPARED = range(6)      # tags of the items that the program reads
 LISTING, ASSEMBLY = range(2)            # the call of a case of refusals.bin
 WRITING, READING = range(2)             # the call of a case of wire.bin
 
@@ -17,6 +17,9 @@ CALL = Record("CALL", Field("call", 1), Field("room", 4), Field("length", 2))
 REFUSAL = Record("REFUSAL", Field("number", 1))
 ROUTED = Record("ROUTED", Field("room", 4), Field("number", 1), Field("routes", 2))
 CARRIAGE = Record("CARRIAGE", Field("call", 1), Field("room", 4), Field("number", 1), Field("length", 2))
+PAIRS = Record("PAIRS", Field("count", 2))
+LENGTH = Record("LENGTH", Field("length", 1))
+COMPARISON = Record("COMPARISON", Field("order", 1), Field("digests", 1))
 
 
 def given(src, dst, book):
@@ -42,6 +45,14 @@ def routed(case, room, number, records):
 def carried(given, call, room, number, found):
     """A case of wire.bin; the number is 0 and the bytes are those found where the call is not refused."""
     return framed(given) + CARRIAGE.pack(call, room, number, len(found)) + found
+
+
+def compared(book, pairs):
+    """A case of comparisons.bin: a book with pairs of records. Pairs are (order, digests, record, record), the order -1, 0 or 1."""
+    out = framed(book) + PAIRS.pack(len(pairs))
+    for order, digests, a, b in pairs:
+        out += LENGTH.pack(len(a)) + a + LENGTH.pack(len(b)) + b + COMPARISON.pack(order + 1, digests)
+    return out
 
 
 class Reader:

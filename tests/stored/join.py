@@ -1,5 +1,5 @@
 #!/usr/bin/env python3
-"""Joins the bench cases, answers.bin, refusals.bin, routes.bin and wire.bin to what crate replay is run on (README.md).
+"""Joins the bench cases, answers.bin, refusals.bin, routes.bin, wire.bin and comparisons.bin to what crate replay is run on (README.md).
 
     join.py            writes crates/replay/stdin and crates/replay/stdout
     join.py --check    says whether they are what it would write
@@ -8,6 +8,7 @@ import os
 import sys
 
 import bench
+import comparisons
 import form
 
 HERE = os.path.dirname(os.path.abspath(__file__))
@@ -24,6 +25,7 @@ def main():
     parts["refusals"] = tagged(form.CALLED, form.refusals())
     parts["routes"] = tagged(form.ASKED, form.routes())
     parts["wire"] = tagged(form.CARRIED, form.wire())
+    parts["comparisons"] = tagged(form.COMPARED, comparisons.checked())
     files = {
         "stdin": b"".join(bytes([form.LABEL, len(label)]) + label.encode() + b"".join(cases) for label, cases in parts.items()),
         "stdout": "".join(f"{label}: {len(cases)} cases, 0 differ\n" for label, cases in parts.items()).encode(),

@@ -9,6 +9,7 @@ import os
 import re
 import struct
 import sys
+from itertools import pairwise, product
 
 HERE = os.path.dirname(os.path.abspath(__file__))
 PROOFS = os.path.join(HERE, "..", "..", "crates", "spec", "proofs")
@@ -121,7 +122,7 @@ FORMS = {
     "edge": lambda *numbers: list(numbers), "solution": solution, "input": lambda b, src, dst: list(struct.pack(">QQ", src, dst)) + b,
     "case": lambda asked, expected: (asked, expected),
     **{kind: question(kind) for kind in ("accept", "list", "route", "print", "assemble", "least", "sketch", "hold", "room", "live", "write", "read", "writes",
-                                         "reads", "send", "carry")},
+                                         "reads", "send", "carry", "compared", "comparedAll")},
 }
 TAKEN = re.compile(r"^use Rattle\.spec\.proofs\.(\w+)\.\{([^}]*)\}", re.M)
 DEFINITION = re.compile(r"^(?:unfoldable |abbrev )?(?:pub )?(\w+) : [^\n]*\n\1((?: \w+)*) =\n?(.*?)(?=\n\n|\Z)", re.S | re.M)
@@ -156,9 +157,9 @@ def definitions(name, names, others):
 def tables():
     """(file, table, cases): those of SHA-256 are `hashed`."""
     form, read = definitions("CasesForm", dict(FORMS), {}), {}
-    for name in ("Cases", "PinnedCases", "RouteCases", "AddedCases", "WireCases"):
+    for name in ("Cases", "PinnedCases", "RouteCases", "AddedCases", "WireCases", "DigestCases"):
         read[name] = found = definitions(name, dict(form), read)
-        for table in ("table", "hashed", "bytewise"):
+        for table in ("table", "hashed", "bytewise", "chained"):
             if table in found:
                 yield name, table, found[table]
 
@@ -330,6 +331,11 @@ def numbered(answer):
     return [number, *out]
 
 
+def compared(book, pairs):
+    """Of each pair of records: 0 before, 1 same, 2 after, and how many fingerprints are worked out; with SHA-256, which orders the tables' books alike."""
+    return joined((order + 1, digests) for order, digests in (model.compare(book, r, s) for r, s in pairs))
+
+
 def modelled_answer(words):
     """The answer to any question, by the model; the exact text of a refusal too."""
     if words[0] == "write":
@@ -342,6 +348,11 @@ def modelled_answer(words):
         return [model.read(bytes(wire), PATH_SIZE)[0] for wire in words[1]]
     if words[0] == "carry":
         return held(*wire_parts(bytes(words[1])))
+    if words[0] == "compared":
+        return compared(bytes(words[1]), pairwise(map(bytes, words[2])))
+    if words[0] == "comparedAll":
+        records = [model.record(chain) for chain in model.solutions(bytes(words[1]), *words[2:])]
+        return compared(bytes(words[1]), product(records, repeat=2))
     if words[0] == "accept":
         return [model.verdict(bytes(words[1]))]
     if words[0] == "room":

@@ -3,4 +3,5 @@ pub mod Demand1
 pub mod Demand3
 pub mod Routes
 pub mod Twice
+pub mod Compared
 pub mod WireDemand

@@ -8,8 +8,10 @@ pub mod Comparing
 pub mod Words
 pub mod RecordOrder
 pub mod Caching
+pub mod Counting
 pub mod Reissued
 pub mod Chains
+pub mod Compared
 pub mod Coding
 pub mod KeyOrder
 pub mod KeyForms

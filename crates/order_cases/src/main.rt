@@ -2,6 +2,9 @@
 // empty line after each buffer; then the digests of four long buffers. `stdout` has what `expected.py`
 // writes, which has the same book and records, and sorts by a key of its own, with SHA-256 from Python's
 // hashlib. The keys that decide in `by_keys`, `by_positions` and `in_part` were worked out by hand too.
+// Then pairs of records, compared.
+mod compared;
+
 use spec::AsEntry;
 use spec::Head;
 use spec::HopField;
@@ -180,9 +183,14 @@ fn in_part(n: usize) {
     show(&s);
 }
 
-// Bytes 0 to 2 with no order in them.
+// Numbers with no order in them, for the bytes of records.
+fn spread(i: usize) -> usize {
+    (i % 4096 * 7919 + i / Solution::SIZE % 8192 * 104729) / 61
+}
+
+// Bytes 0 to 2.
 fn mixed(i: usize) -> u8 {
-    ((i % 4096 * 7919 + i / Solution::SIZE % 8192 * 104729) / 61 % 3) as u8
+    (spread(i) % 3) as u8
 }
 
 // The same, as records that a key can be made of: zero is 0, and a direction 0 or 1.
@@ -197,17 +205,66 @@ fn plain(i: usize) -> u8 {
     b
 }
 
-fn byte_at(i: usize, all_plain: bool) -> u8 {
-    if all_plain {
-        return plain(i);
+// Mostly 0.
+fn rare(x: usize) -> u8 {
+    if x % 16 == 0 {
+        return 1;
     }
-    mixed(i)
+    0
 }
 
-fn fill(s: &mut [u8], all_plain: bool) {
+// Mostly one of the two positions with one fingerprint, else any of the book or one of two past it.
+fn position(x: usize) -> u8 {
+    if x % 8 < 3 {
+        return 1;
+    }
+    if x % 8 < 6 {
+        return 4;
+    }
+    if x % 16 == 6 {
+        return 200;
+    }
+    if x % 16 == 14 {
+        return 250;
+    }
+    (x / 8 % 6) as u8
+}
+
+// Records that are equal in many keys. What no key reads, zero and the directions, is any byte.
+fn tied(i: usize) -> u8 {
+    let x = spread(i);
+    let place = i % SolutionEdge::SIZE;
+    if place == SolutionEdge::DIRECTION {
+        return mixed(i);
+    }
+    if i % Solution::SIZE < Solution::HEAD {
+        return rare(x);
+    }
+    if place == 0 {
+        return position(x);
+    }
+    rare(x)
+}
+
+// How the bytes of records are made.
+enum Kind {
+    Mixed,
+    Plain,
+    Tied,
+}
+
+fn byte_at(i: usize, kind: Kind) -> u8 {
+    match kind {
+        Kind::Mixed => mixed(i),
+        Kind::Plain => plain(i),
+        Kind::Tied => tied(i),
+    }
+}
+
+fn fill(s: &mut [u8], kind: Kind) {
     let mut i = 0;
     while i < s.len() {
-        s[i] = byte_at(i, all_plain);
+        s[i] = byte_at(i, kind);
         i += 1;
     }
 }
@@ -224,7 +281,7 @@ fn show_digest(s: &[u8]) {
 // 300 records.
 fn long() {
     let mut s = [0u8; 300 * Solution::SIZE];
-    fill(&mut s, false);
+    fill(&mut s, Kind::Mixed);
     order::sort(&book(), &mut s, 300);
     show_digest(&s);
 }
@@ -232,7 +289,7 @@ fn long() {
 // 4,100 records, of which 4,096 are sorted.
 fn longest() {
     let mut s = [0u8; (Limits::SLOTS + 4) * Solution::SIZE];
-    fill(&mut s, false);
+    fill(&mut s, Kind::Mixed);
     order::sort(&book(), &mut s, 5000);
     show_digest(&s);
 }
@@ -240,14 +297,14 @@ fn longest() {
 // 700 records, which are sorted as keys; and with one among them of which no key can be made.
 fn long_plain() {
     let mut s = [0u8; 700 * Solution::SIZE];
-    fill(&mut s, true);
+    fill(&mut s, Kind::Plain);
     order::sort(&book(), &mut s, 700);
     show_digest(&s);
 }
 
 fn long_but_one() {
     let mut s = [0u8; 700 * Solution::SIZE];
-    fill(&mut s, true);
+    fill(&mut s, Kind::Plain);
     s[Solution::HEAD + SolutionEdge::DIRECTION] = 2;
     order::sort(&book(), &mut s, 700);
     show_digest(&s);
@@ -265,4 +322,5 @@ fn main() {
     longest();
     long_plain();
     long_but_one();
+    compared::show();
 }

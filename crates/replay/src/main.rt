@@ -1,6 +1,7 @@
-// Replays stored answers through the functions that the C host calls, and compares every byte of their outputs. What it reads is
-// tests/stored/join.py's file (tests/stored/README.md): labels and cases. Each label has a line with the number of its cases and of
-// those that differ.
+// Replays stored answers through the functions that the C host calls, and compares every byte of their outputs; and stored
+// comparisons of two records, which no C host can ask for. What it reads is tests/stored/join.py's file (tests/stored/README.md):
+// labels and cases. Each label has a line with the number of its cases and of those that differ.
+use order::Order;
 use spec::Limits;
 use spec::Path;
 use spec::Solution;
@@ -15,6 +16,8 @@ const REFUSALS: u32 = 2;
 const ROUTES: u32 = 3;
 
 const WIRE: u32 = 4;
+
+const COMPARISONS: u32 = 5;
 
 // No number of the input's: it ends here, or is malformed.
 const NONE: u32 = 4294967295;
@@ -348,6 +351,71 @@ fn carried(given: &[u8], out: &mut [u8], bytes: &mut [u8]) -> usize {
     )
 }
 
+// ---- comparisons
+
+// Of a stored pair.
+const BEFORE: u32 = 0;
+
+const SAME_PLACE: u32 = 1;
+
+const AFTER: u32 = 2;
+
+fn stands(o: Order) -> u32 {
+    match o {
+        Order::Before => BEFORE,
+        Order::Same => SAME_PLACE,
+        Order::After => AFTER,
+    }
+}
+
+fn compare(book: &[u8], a: &[u8], b: &[u8], place: u32, digests: u32) -> usize {
+    let c = order::compare_solutions(book, a, b);
+    let o = c.order;
+    if stands(o) != place {
+        return DIFFERS;
+    }
+    if c.digests as u32 != digests {
+        return DIFFERS;
+    }
+    SAME
+}
+
+// Reads two records, how the first stands to the second, and how many fingerprints that takes.
+fn pair(book: &[u8]) -> usize {
+    let n = length(1);
+    let mut a = [0u8; 32];
+    if !take(&mut a, n) {
+        return BROKEN;
+    }
+    let m = length(1);
+    let mut b = [0u8; 32];
+    if !take(&mut b, m) {
+        return BROKEN;
+    }
+    let place = number(1);
+    let digests = number(1);
+    if AFTER < place {
+        return BROKEN;
+    }
+    if 255 < digests {
+        return BROKEN;
+    }
+    compare(book, first(&a, n), first(&b, m), place, digests)
+}
+
+// A case of comparisons.bin, after its book.
+fn pairs(book: &[u8]) -> usize {
+    let count = number(2);
+    if count == NONE {
+        return BROKEN;
+    }
+    let mut worst = SAME;
+    for k in 0..count {
+        worst = larger(worst, pair(book));
+    }
+    worst
+}
+
 // ---- labels and their cases
 
 fn case(kind: u32, input: &mut [u8], out: &mut [u8], slots: &mut [u8]) -> usize {
@@ -357,6 +425,9 @@ fn case(kind: u32, input: &mut [u8], out: &mut [u8], slots: &mut [u8]) -> usize 
     }
     if kind == WIRE {
         return carried(first(input, n), out, slots);
+    }
+    if kind == COMPARISONS {
+        return pairs(first(input, n));
     }
     if n < ENDS {
         return BROKEN;
@@ -403,6 +474,9 @@ fn is_case(tag: u32) -> bool {
         return true;
     }
     if tag == WIRE {
+        return true;
+    }
+    if tag == COMPARISONS {
         return true;
     }
     tag == REFUSALS

@@ -17,9 +17,9 @@ use Rattle.spec.specs.Octets.{be16, be32, be64, octets2, octets4, octets
 use Rattle.spec.specs.Book.{macAt, isdAsnAt}
 use Rattle.spec.specs.declared.Edge.{Edge}
 use Rattle.spec.specs.declared.SolutionEdge.{SolutionEdge}
-use Rattle.spec.specs.Order.{cost, solutionEdge, compareSolutions, compareChains}
+use Rattle.spec.specs.Order.{cost, solutionEdge}
 use Rattle.spec.specs.Records.{bit, infoOctets, hopOctets, edgeOctets, solutionOctets, edgeAt, edgeOffset, recordEdge, solutionIn}
-use Rattle.spec.specs.ByRecord.{edgesIn, compareRecords}
+use Rattle.spec.specs.ByRecord.{edgesIn}
 use Rattle.spec.specs.Router.{infoAt, hopAt}
 
 -- ---- numbers
@@ -47,7 +47,7 @@ module _ (xs ys : List ℕ) where
       ap₂ (λ a c. a * 2 ^ 8 + c) (getD-append-add xs ys i 0)
       (ap (λ n. getD (xs ++ ys) n 0) (add-assoc (length xs) i 1) ∙ getD-append-add xs ys (i + 1) 0)
 
-  pub be32-shift : (i : ℕ) → be32 (xs ++ ys) (length xs + i) ≡ be32 ys i
+  be32-shift : (i : ℕ) → be32 (xs ++ ys) (length xs + i) ≡ be32 ys i
   unfolding be32
   be32-shift i =
       ap₂ (λ a c. a * 2 ^ 16 + c) (be16-shift i)
@@ -189,11 +189,3 @@ edges-back c =
 pub cost-back : (c : List Edge) → cost c < 2 ^ 16 → be16 (solutionOctets c) 0 ≡ cost c
 unfolding solutionOctets padded be16 octets2
 cost-back c h = octets2-back (cost c) [] h
-
--- the order of two records is that of the chains
-pub records-order : (digest : List ℕ → List ℕ) (b : List ℕ) (c d : List Edge) → cost c < 2 ^ 16 → cost d < 2 ^ 16
-    → compareRecords digest b (solutionOctets c) (solutionOctets d) ≡ compareChains digest b c d
-unfolding compareRecords compareChains solutionIn
-records-order digest b c d h k =
-    ap₂ (λ m es. compareSolutions digest b m es (be16 (solutionOctets d) 0) (edgesIn (solutionOctets d))) (cost-back c h) (edges-back c)
-    ∙ ap₂ (compareSolutions digest b (cost c) (map solutionEdge c)) (cost-back d k) (edges-back d)

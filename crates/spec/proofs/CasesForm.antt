@@ -1,17 +1,20 @@
 -- How a table of cases is written: books field by field, questions, their answers by the definitions, and the test of a whole table.
 -- Assumes nothing.
-use Prim.Native.Nat.{ℕ, _+_, _-_, _*_}
+use Prim.Native.Nat.{ℕ, _+_, _-_, _*_, Ordering, Ordering·lt, Ordering·eq, Ordering·gt}
 use mathlib.Core.Bool.{Bool, true, _&&_}
 use mathlib.Core.List.{List, [], _∷_, _++_, map, flatMap}
 use lib.ListN.{length, replicate, take}
 use Rattle.spec.specs.declared.IsdAsn.{IsdAsn}
+use Rattle.spec.specs.declared.Edge.{Edge}
 use Rattle.spec.specs.Limits.{pathSize, wireSize}
 use Rattle.spec.specs.Basics.{sameList}
 use Rattle.spec.specs.Octets.{octets2, octets4, octets8}
 use Rattle.spec.specs.Book.{verdict}
-use Rattle.spec.specs.Order.{solutions}
+use Rattle.spec.specs.Order.{compareChains, solutions}
+use Rattle.spec.specs.Digests.{chainDigests}
 use Rattle.spec.specs.Assembly.{CombinedPath, combinedPath, life}
 use Rattle.spec.specs.Records.{bit, slots}
+use Rattle.spec.specs.ByRecord.{compareRecords, recordDigests}
 use Rattle.spec.specs.Router.{routerIds}
 use Rattle.spec.specs.Answers.{Listed, Assembled, listing, assembly, verdictNumber, listNumber, pathNumber}
 use Rattle.spec.specs.Printed.{printed}
@@ -94,6 +97,10 @@ pub data Question : Type 0 where
   send : List ℕ → ℕ → ℕ → List ℕ → Question
   -- the ids that a router holds at the hops, by the bytes on the wire
   carry : List ℕ → Question
+  -- of solution records of a book, each with the next: before, same or after, and how many fingerprints are worked out
+  compared : List ℕ → List (List ℕ) → Question
+  -- the same of the solutions from a source to a destination, each with every one
+  comparedAll : List ℕ → ℕ → ℕ → Question
   -- how many solutions fit in so many bytes?
   room : ℕ → Question
   -- how long does a hop of so many units live?
@@ -111,6 +118,18 @@ sketchOf p =
     flatMap (λ i. (bit (i .construction) + 2 * bit (i .peering)) ∷ i .hops ∷ i .id ∷ []) (p .infos)
     ++ flatMap (λ h. h .ingress ∷ h .egress ∷ []) (p .hops)
     ++ map (λ x. x .id) (p .interfaces)
+
+-- before, same, after
+unfoldable pub orderNumber : Ordering → ℕ
+orderNumber Ordering·lt = 0
+orderNumber Ordering·eq = 1
+orderNumber Ordering·gt = 2
+
+-- each with the next
+unfoldable pub eachNext : (List ℕ → List ℕ → List ℕ) → List (List ℕ) → List ℕ
+eachNext f [] = []
+eachNext f (r ∷ []) = []
+eachNext f (r ∷ s ∷ rs) = f r s ++ eachNext f (s ∷ rs)
 
 unfoldable pub answer : (List ℕ → List ℕ) → Question → List ℕ
 answer digest (accept b) = verdictNumber (verdict b) ∷ []
@@ -141,6 +160,10 @@ answer digest (send b src dst given) =
     let w : Carried = writing (assembly b (isdAsn src) (isdAsn dst) given pathSize .1) wireSize in
     wireNumber (w .0) ∷ w .1
 answer digest (carry wire) = wireRouterIds wire
+answer digest (compared b records) = eachNext (λ r s. orderNumber (compareRecords digest b r s) ∷ recordDigests digest b r s ∷ []) records
+answer digest (comparedAll b src dst) =
+    let found : List (List Edge) = solutions digest b (isdAsn src) (isdAsn dst) in
+    flatMap (λ c. flatMap (λ d. orderNumber (compareChains digest b c d) ∷ chainDigests digest b c d ∷ []) found) found
 answer digest (room bytes) = slots bytes ∷ []
 answer digest (live units) = life units ∷ []
 

@@ -15,6 +15,7 @@ use Rattle.spec.proofs.PinnedCases
 use Rattle.spec.proofs.RouteCases
 use Rattle.spec.proofs.WireCases
 use Rattle.spec.proofs.AddedCases
+use Rattle.spec.proofs.DigestCases
 
 every-mem : (p : Case → Bool) (cs : List Case) → T (every p cs) → (c : Case) → Mem c cs → p c ≡ true
 unfolding every
@@ -36,18 +37,33 @@ p-answer digest = answered digest Cases.table (Cases.all-right digest)
 abbrev added : List Case
 added = AddedCases.table ++ PinnedCases.table ++ RouteCases.table
 
-both : T (every (right AddedCases.unhashed) added) × T (every (right sha256) AddedCases.hashed)
-both =
-    let h = and-true (every (right AddedCases.unhashed) added) (every (right sha256) AddedCases.hashed)
-    (T-true (every (right AddedCases.unhashed) added && every (right sha256) AddedCases.hashed) AddedCases.all-right) in
-    (true-T (every (right AddedCases.unhashed) added) (h .0), true-T (every (right sha256) AddedCases.hashed) (h .1))
+both : (s t : Bool) → T (s && t) → T s × T t
+both s t h =
+    let q = and-true s t (T-true (s && t) h) in
+    (true-T s (q .0), true-T t (q .1))
 
 pub added-answer : (c : Case) → Mem c added → answer AddedCases.unhashed (c .question) ≡ c .expected
-added-answer = answered AddedCases.unhashed added (both .0)
+added-answer =
+    answered AddedCases.unhashed added (both (every (right AddedCases.unhashed) added) (every (right sha256) AddedCases.hashed) AddedCases.all-right .0)
 
 pub hashed-answer : (c : Case) → Mem c AddedCases.hashed → answer sha256 (c .question) ≡ c .expected
-hashed-answer = answered sha256 AddedCases.hashed (both .1)
+hashed-answer =
+    answered sha256 AddedCases.hashed (both (every (right AddedCases.unhashed) added) (every (right sha256) AddedCases.hashed) AddedCases.all-right .1)
 
 -- the fifth table, for every digest
 pub wire-answer : (digest : List ℕ → List ℕ) (c : Case) → Mem c (WireCases.table ++ WireCases.bytewise) → answer digest (c .question) ≡ c .expected
 wire-answer digest = answered digest (WireCases.table ++ WireCases.bytewise) (WireCases.all-right digest)
+
+-- the sixth table, its cases of chains, and those with SHA-256
+pub digest-answer : (c : Case) → Mem c DigestCases.table → answer AddedCases.unhashed (c .question) ≡ c .expected
+digest-answer =
+    answered AddedCases.unhashed DigestCases.table
+    (both (every (right AddedCases.unhashed) DigestCases.table) (every (right sha256) DigestCases.hashed) DigestCases.all-right .0)
+
+pub digest-chained-answer : (c : Case) → Mem c DigestCases.chained → answer AddedCases.unhashed (c .question) ≡ c .expected
+digest-chained-answer = answered AddedCases.unhashed DigestCases.chained DigestCases.chains-right
+
+pub digest-hashed-answer : (c : Case) → Mem c DigestCases.hashed → answer sha256 (c .question) ≡ c .expected
+digest-hashed-answer =
+    answered sha256 DigestCases.hashed
+    (both (every (right AddedCases.unhashed) DigestCases.table) (every (right sha256) DigestCases.hashed) DigestCases.all-right .1)

@@ -9,10 +9,10 @@ use Rattle.order_cases.proofs.fill.Statement.{statement}
 use Rattle.order_cases.proofs.fill.Tie as tie
 
 abbrev Inv-loop : tie.InvT-loop
-Inv-loop s₀ «all_plain» i₀ s i = length s ≡ length s₀
+Inv-loop s₀ kind i₀ s i = length s ≡ length s₀
 
 abbrev μ-loop : tie.MeasureT-loop
-μ-loop s₀ «all_plain» i₀ s i = length s₀ - i
+μ-loop s₀ kind i₀ s i = length s₀ - i
 
 loop-again : tie.Need-loop-again Inv-loop μ-loop
 loop-again c = simp length-set (omega arith)
