@@ -61,7 +61,7 @@ fn edge_of(book: &[u8], table: &[u16; PLACES], id: SolutionEdge) -> Found
 
 // What a row of edges has reached: the vertex, the sum of the weights, and the kinds, a binary digit for each
 // edge, 1 for core.
-#[derive(Drop)]
+#[derive(Clone, Copy)]
 struct Reached {
     at: Vertex,
     cost: u16,

@@ -17,7 +17,7 @@ use book::PLACES;
 use spec::{Edge, IsdAsn, Vertex};
 
 // What is found between two vertices.
-#[derive(Drop)]
+#[derive(Clone, Copy)]
 pub(crate) enum Found {
     Edge(Edge),
     Nothing,
@@ -26,7 +26,7 @@ pub(crate) enum Found {
 // ---- between two vertices
 
 // What of an edge to an AS of a non-core segment is not known before it is found.
-#[derive(Drop)]
+#[derive(Clone, Copy)]
 pub(crate) struct EdgeFound {
     pub found: bool,
     pub construction: bool,

@@ -21,7 +21,7 @@ use spec::{IsdAsn, Limits, ListAnswer, Refusal, Solution, Verdict};
 
 // The chain that a record is of: a refused book has none, a stranger's record is of none, and of a chain the
 // number of its edges, which are those that the record names. `specs/Recorded.antt` has its numbers.
-#[derive(Drop)]
+#[derive(Clone, Copy)]
 pub enum Chain {
     Refused(Refusal),
     Stranger,

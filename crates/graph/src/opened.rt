@@ -158,7 +158,7 @@ pub(crate) fn find_as(book: &[u8], table: &[u16; PLACES], k: u8, a: IsdAsn, n: u
 }
 
 // Which of two ASes the entries of a segment have.
-#[derive(Drop)]
+#[derive(Clone, Copy)]
 pub(crate) struct Ends {
     pub src: bool,
     pub dst: bool,

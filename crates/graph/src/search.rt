@@ -30,7 +30,7 @@ const PLAN: usize = 2 * Limits::SEGMENTS + 1;
 
 // What the loops share: how many segments are core, how many there are, where chains begin and arrive, how many slots
 // there are.
-#[derive(Drop)]
+#[derive(Clone, Copy)]
 struct Query {
     cores: u8,
     count: u8,
@@ -41,7 +41,7 @@ struct Query {
 
 // What stands before a last edge: one that ends at a peering link, one that ends at an AS, or two, of which the second
 // ends at an AS.
-#[derive(Drop)]
+#[derive(Clone, Copy)]
 enum Before {
     Link,
     One,

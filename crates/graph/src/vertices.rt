@@ -13,7 +13,7 @@ pub(crate) fn same_as(a: IsdAsn, b: IsdAsn) -> bool
 }
 
 // A peering link from one side: the AS and the interface there, and those of the other side.
-#[derive(Drop)]
+#[derive(Clone, Copy)]
 pub(crate) struct Link {
     pub local: IsdAsn,
     pub ingress: u16,

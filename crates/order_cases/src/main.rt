@@ -240,7 +240,7 @@ fn tied(i: usize) -> u8 {
 }
 
 // How the bytes of records are made.
-#[derive(Drop)]
+#[derive(Clone, Copy)]
 enum Kind {
     Mixed,
     Plain,

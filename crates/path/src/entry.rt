@@ -15,7 +15,7 @@ use crate::{places, within};
 use spec::{AsEntry, HopField, PathInterface, PeerEntry, SolutionEdge};
 
 // The ids of the interfaces at an entry, in the path's order; 0 where one is not shown.
-#[derive(Drop)]
+#[derive(Clone, Copy)]
 pub(crate) struct ShownIds {
     first: u16,
     second: u16,
@@ -197,7 +197,7 @@ fn mtu_at(book: &[u8], e: SolutionEdge, m: usize, at: usize, x: u16) -> u16
 // ---- one hop
 
 // Where the next hop, AS and id go, each in its buffer, and the least MTU and units so far.
-#[derive(Drop)]
+#[derive(Clone, Copy)]
 pub(crate) struct Walk {
     pub hops: usize,
     pub ases: usize,

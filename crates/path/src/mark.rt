@@ -13,7 +13,7 @@ const PRIME: u64 = 2147483647;
 const FEW: usize = 128;
 
 // What the parts of an interface are multiplied by, and a mark before the next interface. Any numbers do.
-#[derive(Drop)]
+#[derive(Clone, Copy)]
 pub(crate) struct Keys {
     pub isd: u32,
     pub high: u32,
@@ -51,7 +51,7 @@ fn keys_in(s: &[u8]) -> Keys
 }
 
 // Two sets of keys, each with a mark of its own: see docs/DECISIONS.md.
-#[derive(Drop)]
+#[derive(Clone, Copy)]
 pub(crate) struct Pair {
     pub first: Keys,
     pub second: Keys,

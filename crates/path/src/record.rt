@@ -66,7 +66,7 @@ fn sooner(x: u32, y: u32) -> u32
 }
 
 // Where hops, ASes and ids end, each in its buffer, the path's MTU and its expiry.
-#[derive(Drop)]
+#[derive(Clone, Copy)]
 pub(crate) struct Ends {
     pub hops: usize,
     pub ases: usize,

@@ -28,7 +28,7 @@ const MEDIUM_BUCKETS: usize = 256;
 const LONG_BUCKETS: usize = 512;
 
 // Where a route is held, its slot from 1, and the expiry of the record there; 0 where it is not.
-#[derive(Drop)]
+#[derive(Clone, Copy)]
 pub(crate) struct Held {
     pub slot: usize,
     pub expiry: u32,

@@ -11,7 +11,7 @@ use book::PLACES;
 use spec::{Path, PathInterface, Solution};
 
 // How many interfaces there are, and the path's expiry.
-#[derive(Drop)]
+#[derive(Clone, Copy)]
 pub(crate) struct Shown {
     pub count: usize,
     pub expiry: u32,

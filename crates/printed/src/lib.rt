@@ -26,7 +26,7 @@ pub const TEXT: usize = SOLUTION_LINE
     + Path::INTERFACES * INTERFACE_LINE;
 
 // How long the first line is, and how many solutions follow it.
-#[derive(Drop)]
+#[derive(Clone, Copy)]
 pub struct Opening {
     pub length: usize,
     pub solutions: usize,

@@ -75,7 +75,7 @@ pub(crate) fn refuses_record(path: &[u8]) -> bool
 // ---- the reader
 
 // The lengths of the three segments.
-#[derive(Drop)]
+#[derive(Clone, Copy)]
 pub(crate) struct Lengths {
     pub first: usize,
     pub second: usize,
