@@ -1,5 +1,7 @@
 // A book of segments as a whole: the answer about it alone, and where its entries start. Every function
 // answers for any bytes: what lies past the book's end reads as 0.
+#![tactic(auto)]
+
 mod answer;
 mod marks;
 mod numbers;

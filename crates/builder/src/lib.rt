@@ -1,6 +1,8 @@
 // Books and solution records, written part by part into a lent buffer, for the programs that try other crates. Each
 // function writes one part at `at` and returns where the next one goes. What would fall past the end is dropped, and
 // the next place is then the end.
+#![tactic(auto)]
+
 ghost use Rattle.std.specs.Prelude.{◌≡◌, [], ◌∷◌, ◌+◌, min};
 ghost use Rattle.spec.specs.Octets.{octets2, octets4, octets8};
 ghost use Rattle.records.specs.Octets.{record_octets};

@@ -1,5 +1,7 @@
 // The functions that the gateway's C host calls: numbers and byte slices in, a number out. Below 65,536 the
 // number is the answer itself; 65,536 + N is refusal N.
+#![tactic(auto)]
+
 ghost use Rattle.std.specs.Prelude.{◌≡◌, length};
 ghost use Rattle.combinator.specs.Exports.{list_returned, routes_returned, path_returned, write_returned, read_returned};
 

@@ -1,5 +1,7 @@
 // Equal segments: of the same kind, timestamp, id and body. Every function answers for any bytes: what lies past the
 // book's end reads as 0.
+#![tactic(auto)]
+
 ghost use Rattle.std.specs.Prelude.{◌≡◌, ◌+◌, ◌^◌, ◌≤◌, ◌<◌, min, length, ltb};
 ghost use Rattle.spec.specs.Book.{cores, id_at, segment_at};
 ghost use Rattle.spec.specs.Edges.{same_bool, same_segment};

@@ -1,5 +1,7 @@
 // The fingerprint of a segment: SHA-256 over each entry's AS, ingress and egress, in order. It answers for
 // any bytes: what lies past the book's end reads as 0.
+#![tactic(auto)]
+
 ghost use Rattle.std.specs.Prelude.{◌≡◌, ◌+◌, ◌*◌, ◌^◌, ◌≤◌, ◌<◌, min, length, take, drop};
 ghost use Rattle.spec.specs.Limits.{max_entries};
 ghost use Rattle.spec.specs.Book.{segment_at, entry_at};

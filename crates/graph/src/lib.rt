@@ -1,5 +1,7 @@
 // The stored edges of a book, the chains of them and the list: what graph.rs calls the multigraph, worked
 // out of the book where it lies.
+#![tactic(auto)]
+
 ghost use Rattle.std.specs.Prelude.{◌≡◌, ◌*◌, ◌/◌, length};
 ghost use Rattle.sha256.specs.Message.{sha256};
 ghost use Rattle.spec.specs.Records.{slots};

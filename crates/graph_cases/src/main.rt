@@ -1,5 +1,7 @@
 // Lists at the limits. Each line is a book and ends, listing's answer as a number, and the first and the last record. The answers and
 // records in the file `stdout` were worked out by hand from docs/SPECIFICATION.md 5.5, 8.1 and 9.5. All that is not said of a book is zero.
+#![tactic(auto)]
+
 ghost use Rattle.std.specs.Prelude.{◌≤◌};
 ghost use Rattle.spec.specs.Limits.{max_slots};
 

@@ -1,6 +1,8 @@
 // Prints a list: source (8), destination (8) and book from standard input, the lines to standard output.
 // No contract can say what is read or written. So each piece goes to a function that requires its bytes to
 // be that piece, and `print` answers how many bytes it handed over: as many as the list has.
+#![tactic(auto)]
+
 ghost use Rattle.std.specs.Prelude.{◌≡◌, ◌*◌, ◌≤◌, ◌<◌, length};
 ghost use mathlib.Core.List.{flat_map};
 ghost use Rattle.sha256.specs.Message.{sha256};

@@ -1,5 +1,7 @@
 // Big-endian numbers in a slice of bytes, read at an offset. Every function is total, also where the
 // offset is so large that the next one is no usize: a byte past the end reads as 0.
+#![tactic(auto)]
+
 ghost use Rattle.std.specs.Prelude.{◌≡◌, true, false, ◌+◌, ◌≤◌, ◌<◌, length, get_or};
 ghost use Rattle.spec.specs.Octets.{be16, be32, be64};
 

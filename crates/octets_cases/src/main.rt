@@ -1,5 +1,7 @@
 // Reads and writes at and around the end of a buffer of nine bytes, and far past it. The file `stdout` has what
 // they must be: worked out in Python, by int.from_bytes, int.to_bytes and parts of lists.
+#![tactic(auto)]
+
 const MAX: usize = 18446744073709551615;
 
 const SOURCE: [u8; 9] = [0x81, 0x92, 0xa3, 0xb4, 0xc5, 0xd6, 0xe7, 0xf8, 0x09];

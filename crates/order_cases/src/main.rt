@@ -3,6 +3,8 @@
 // writes, which has the same book and records, and sorts by a key of its own, with SHA-256 from Python's
 // hashlib. The keys that decide in `by_keys`, `by_positions` and `in_part` were worked out by hand too.
 // Then pairs of records, compared.
+#![tactic(auto)]
+
 mod compared;
 
 use spec::{AsEntry, Head, HopField, IsdAsn, Limits, Sizes, Solution, SolutionEdge};

@@ -1,6 +1,8 @@
 // Bytes, big-endian numbers, zeros and copies written into a lent slice at an offset. Every function is
 // total, also where the offset is so large that the next one is no usize: what would be written past
 // the end is dropped.
+#![tactic(auto)]
+
 ghost use Rattle.std.specs.Prelude.{◌≡◌, true, false, [], ◌∷◌, ◌+◌, ◌-◌, ◌≤◌, ◌<◌, min, length, take, drop};
 ghost use Rattle.spec.specs.Octets.{octets2, octets4, octets8};
 ghost use Rattle.output.specs.Write.{written, zeroed};

@@ -1,4 +1,6 @@
 // Assembly: the path of a chain, from the book to the bytes of its record.
+#![tactic(auto)]
+
 mod edge;
 mod entry;
 mod loop_test;

@@ -1,5 +1,7 @@
 // The printed list, piece by piece, in a lent buffer: the first line, then the lines of each solution.
 // `proofs/Joined` says that the pieces, one after the other, are the list.
+#![tactic(auto)]
+
 ghost use Rattle.std.specs.Prelude.{◌≡◌, ◌≤◌, length};
 ghost use Rattle.output.specs.Write.{written};
 ghost use Rattle.printed.specs.Pieces.{listed, count_of, first_line, first_line_size, slot_text, solution_text_size};

@@ -1,6 +1,8 @@
 // Replays stored answers through the functions that the C host calls, and compares every byte of their outputs; and stored
 // comparisons of two records, which no C host can ask for. What it reads is tests/stored/join.py's file (tests/stored/README.md):
 // labels and cases. Each label has a line with the number of its cases and of those that differ.
+#![tactic(auto)]
+
 use order::Order;
 use spec::{Limits, Path, Solution};
 

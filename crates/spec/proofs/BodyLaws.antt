@@ -69,7 +69,7 @@ module _ (b : List ℕ) (end : ℕ) where
 
 -- ---- an accepted book
 
-both-accepted : (v w : Verdict) → (v and_then_lem w) ≡ Accepted → (v ≡ Accepted) × (w ≡ Accepted)
+both-accepted : (v w : Verdict) → (v and_then w) ≡ Accepted → (v ≡ Accepted) × (w ≡ Accepted)
 both-accepted Accepted w q = (refl, q)
 both-accepted (Refused r) w q = absurd (subst is_refused q tt)
   where

@@ -110,8 +110,8 @@ entries_verdict b end at (suc left) =
 -- 9.3: the first refusal of the two, if there is one
 infixr 4 ◌and_then◌
 abbrev pub ◌and_then◌ : Verdict → Verdict → Verdict
-Accepted and_then_lem v = v
-(Refused r) and_then_lem v = Refused r
+Accepted and_then v = v
+(Refused r) and_then v = Refused r
 
 -- 9.4: entry j of the body at position k has the AS of entry i
 unfoldable pub has_local_of : List ℕ → ℕ → ℕ → ℕ → Bool
@@ -129,12 +129,12 @@ passes_twice b k = any (stands_earlier b k) (range 0 (entry_count_at b k))
 unfoldable pub body_verdict : List ℕ → ℕ → Verdict
 body_verdict b k =
     entries_verdict b (body_offset b k + body_length_at b k) (body_offset b k) (entry_count_at b k)
-    and_then_lem (if passes_twice b k then Refused Twice else Accepted)
+    and_then (if passes_twice b k then Refused Twice else Accepted)
 
 -- 9.3: the bodies from position k on, as many as are left
 unfoldable pub bodies_verdict : List ℕ → ℕ → ℕ → Verdict
 bodies_verdict b k zero = Accepted
-bodies_verdict b k (suc left) = body_verdict b k and_then_lem bodies_verdict b (k + 1) left
+bodies_verdict b k (suc left) = body_verdict b k and_then bodies_verdict b (k + 1) left
 
 -- 9.3: the head at position k has an entry count above the limit
 unfoldable pub is_long : List ℕ → ℕ → Bool

@@ -1,6 +1,8 @@
 // The answers 1 to 7 and 11 about a book, at each limit and one past it, a byte short and a byte more, and which comes first where
 // two apply. Each line is a book and the number of its answer, 0 where it is accepted. The numbers in the file `stdout` were
 // worked out by hand from docs/SPECIFICATION.md 9.3 and 9.4. All that a book does not state is zero.
+#![tactic(auto)]
+
 use spec::{AsEntry, Head, HopField, IsdAsn, Limits, PeerEntry, Sizes, Verdict};
 
 // Room for every book: a byte more than the limit.

@@ -1,4 +1,6 @@
 // The standard path of the data draft: written of a path record, and read into one.
+#![tactic(auto)]
+
 mod accept;
 mod put;
 

@@ -1,0 +1,13 @@
+-- `chain_of` meets its contract: the table is what `book::open` leaves, and an accepted book has its chain.
+use Rattle.graph.proofs.OpenedReads.{opened-ready}
+use Rattle.graph.proofs.RecordWalkTurns.{refused-said, accepted-said}
+use Rattle.graph.proofs.chains.chain_of.Goals as goal
+
+pub returns-in-Refused : goal.returns-in-Refused
+returns-in-Refused c = (refused-said _ _ c.«open».ensures.0 _ _ _ _ c.v-1.given.1, c.«open».ensures.1)
+
+pub chain_in-requires : goal.chain_in-requires
+chain_in-requires c = opened-ready _ _ c.«open».ensures.0 c.«open».ensures.1 c.enum_told-1.given.1
+
+pub returns : goal.returns
+returns c = (accepted-said _ _ c.«open».ensures.0 _ _ _ c.enum_told-1.given.1 c.chain_in.ensures, c.«open».ensures.1)

@@ -1,0 +1,43 @@
+-- `is_chain` meets its contract. The loop's invariant: the answer is that from edge x on, from where the edges before it have come.
+use mathlib.Core.Path.{refl, sym, ◌∙◌}
+use Prim.Native.Nat.{◌-◌}
+use native.Mathlib.Omega.{arith}
+use borrow.Author.Tests.{not-true, not-false}
+use Rattle.graph.specs.RecordWalk.{begun}
+use Rattle.graph.proofs.RecordWalkTurns.{bounded-two, bounded-further, all-passed, edge-gone, edge-astray, edge-passed}
+use Rattle.graph.proofs.chains.is_chain.Goals as goal
+
+)
+
+pub loop-x-init : goal.loop-x-init
+loop-x-init c = (omega arith, record { cost = omega arith; kinds = omega arith }, refl)
+
+pub edge_of-found-requires : goal.edge_of-found-requires
+edge_of-found-requires c = c.requires.ready
+
+pub returns-in_default : goal.returns-in_default
+unfolding begun
+returns-in_default c = sym (c.loop-x.invariant.2 ∙ edge-gone _ _ _ _ _ _ c.loop-x-test.true c.edge-id.ensures _ c.edge_of-found.ensures c.enum_told-1.given.1)
+
+pub returns-then-not-goes_on : goal.returns-then-not-goes_on
+unfolding begun
+returns-then-not-goes_on c = sym (c.loop-x.invariant.2 ∙ edge-astray _ _ _ _ _ _ c.loop-x-test.true c.edge-id.ensures _ c.edge_of-found.ensures c.found-1.given.1 c.goes_on.ensures (not-true _ c.if-not-goes_on.true))
+
+pub one_further-reached-requires : goal.one_further-reached-requires
+one_further-reached-requires c = bounded-two _ _ (omega (arith, c.requires.count_le_max_edges)) c.loop-x.invariant.1
+
+pub overflow_add-x : goal.overflow_add-x
+overflow_add-x c = omega (arith, c.requires.count_le_max_edges)
+
+pub loop-x-preserved : goal.loop-x-preserved
+loop-x-preserved c = (
+  omega arith,
+  bounded-further _ _ _ (omega (arith, c.requires.count_le_max_edges)) c.loop-x.invariant.1 c.one_further-reached.ensures.0 c.one_further-reached.ensures.1,
+  c.loop-x.invariant.2 ∙ edge-passed _ _ _ _ _ _ c.loop-x-test.true c.edge-id.ensures _ c.edge_of-found.ensures c.found-1.given.1 c.goes_on.ensures (not-false _ c.if-not-goes_on.false) c.one_further-reached.ensures.0,
+
+pub arrives-requires : goal.arrives-requires
+arrives-requires c = c.requires.1
+
+pub returns : goal.returns
+unfolding begun
+returns c = c.arrives.ensures ∙ sym (c.loop-x.invariant.2 ∙ all-passed _ _ _ _ _ _ c.loop-x-test.false)

@@ -1,0 +1,33 @@
+-- The loop: no equal stands below j.
+use Prim.Native.Nat.{◌-◌}
+use native.Mathlib.Omega.{arith}
+use mathlib.Core.Logic.{⊎_elim}
+use Rattle.graph.proofs.FirstOfEqualsLaws.{head-differs, entry-differs}
+use Rattle.graph.proofs.first_of_equals.next_alike.Goals as goal
+
+pub loop-j-init : goal.loop-j-init
+loop-j-init c = (omega arith, c.requires.none_below)
+
+pub head_word-requires : goal.head_word-requires
+head_word-requires c = let p = c.requires in record { book_value = p.ready.ok; k_bound = omega (arith, p.end_bound); }
+
+pub entry_word-requires : goal.entry_word-requires
+entry_word-requires c = let p = c.requires in record { ready = p.ready; k_bound = omega (arith, p.end_bound); word_end_in_bounds = p.word_end_in_bounds; }
+
+pub returns-then-entry_word-last : goal.returns-then-entry_word-last
+returns-then-entry_word-last c = c.loop-j.invariant
+
+pub loop-j-preserved : goal.loop-j-preserved
+loop-j-preserved c =
+    let p = c.requires in
+    let n = c.loop-j.invariant.1 in
+    let l = c.loop-j-test.true in (
+      omega arith,
+      ⊎_elim
+          (λ x. entry-differs n l _ p.ready p.end_bound x.1.ensures p.word_value.1 x.2.left)
+          (λ x. head-differs n l _ p.ready p.end_bound c.head_word.ensures p.word_value.0 x.left)
+          c.if-head_word-word.branch,
+    )
+
+pub returns : goal.returns
+returns c = c.loop-j.invariant

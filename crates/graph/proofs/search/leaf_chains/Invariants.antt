@@ -1,0 +1,19 @@
+-- The loop: what is pushed so far, and what the entries from i on give.
+use Prim.Native.Nat.{◌≤◌, ◌-◌}
+use mathlib.Core.Path.{◌≡◌}
+use mathlib.Core.List.{flat_map}
+use lib.ListN.{length}
+use Rattle.spec.specs.Basics.{range}
+use Rattle.spec.specs.Book.{segment_at}
+use Rattle.graph.specs.Leaving.{ups_at}
+use Rattle.graph.specs.Search.{chains_from}
+use Rattle.graph.proofs.PushedTurns.{Going}
+use Rattle.graph.proofs.search.leaf_chains.Given as goal
+
+abbrev pub invariant-loop-i : goal.invariant-loop-i
+invariant-loop-i l =
+    (l.i ≤ l.count) × (length l.out ≡ length l.initial.out)
+    × Going l.q.slots (l.start, l.initial.out) (l.n, l.out) (flat_map (chains_from l.book l.q.dst) (flat_map (ups_at (segment_at l.book l.k)) (range 0 l.count))) (flat_map (chains_from l.book l.q.dst) (flat_map (ups_at (segment_at l.book l.k)) (range l.i (l.count - l.i))))
+
+abbrev pub decreases-loop-i : goal.decreases-loop-i
+decreases-loop-i l = l.count - l.i

@@ -1,0 +1,19 @@
+-- `same_vertex` meets its contract.
+use mathlib.Core.Path.{sym, ap₂, ◌∙◌}
+use Rattle.spec.specs.Edges.{same_vertex}
+use Rattle.graph.proofs.VertexTests.{as-as, as-peering, peering-as}
+use Rattle.graph.proofs.vertices.same_vertex.Goals as goal
+
+pub returns-in-AS-w : goal.returns-in-AS-w
+returns-in-AS-w c = as-as c.v-1.given.1 c.w-1.given.1 c.same_as.ensures
+
+pub returns-in-Peering-w : goal.returns-in-Peering-w
+returns-in-Peering-w c = as-peering c.v-1.given.1 c.enum_told-1.given.1
+
+pub returns-in-AS-w-2 : goal.returns-in-AS-w-2
+returns-in-AS-w-2 c = peering-as c.v-in-Peering-v-1.given.1 c.enum_told-in-AS-w-2-1.given.1
+
+pub returns-in-Peering-w-2 : goal.returns-in-Peering-w-2
+returns-in-Peering-w-2 c =
+    c.same_link.ensures
+    ∙ ap₂ same_vertex (sym c.v-in-Peering-v-1.given.1) (sym c.w-in-Peering-1.given.1)

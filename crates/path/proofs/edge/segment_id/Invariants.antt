@@ -1,0 +1,14 @@
+-- `segment_id` meets its contract. The invariant of its loop: the MACs of the first i entries are folded in.
+use Prim.Native.Nat.{◌-◌, ◌≤◌}
+use mathlib.Core.Path.{◌≡◌}
+use Rattle.spec.specs.Assembly.{id_below, segment_of}
+use Rattle.path.specs.Edges.{edge_by}
+use Rattle.path.proofs.edge.segment_id.Given as goal
+
+)
+
+abbrev pub invariant-loop-i : goal.invariant-loop-i
+invariant-loop-i l = (l.id ≡ id_below (segment_of l.book (edge_by l.e)) l.i) × (l.i ≤ l.stop)
+
+abbrev pub decreases-loop-i : goal.decreases-loop-i
+decreases-loop-i l = l.stop - l.i

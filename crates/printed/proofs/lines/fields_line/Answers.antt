@@ -1,0 +1,10 @@
+-- `fields_line` meets its contract.
+use native.Mathlib.Omega.{arith}
+use Rattle.spec.specs.Printed.{ascii, item, newline}
+use Rattle.path.proofs.Writes.{wrote-join}
+use Rattle.printed.specs.Lines.{fields_line}
+use Rattle.printed.proofs.lines.fields_line.Goals as goal
+
+pub returns : goal.returns
+unfolding fields_line item ascii newline
+returns c = (wrote-join (wrote-join (wrote-join c.put_item-next.ensures.0 c.put_item-then.ensures.0) c.put_item-last.ensures.0) c.put_word.ensures, omega (arith, c.put_item-next.ensures.1, c.put_item-then.ensures.1, c.put_item-last.ensures.1, c.put_word.ensures.end))

@@ -1,0 +1,26 @@
+-- `count_paths` meets its contract. The invariant of its loop: the paths among the first k slots are counted.
+use Prim.Native.Nat.{◌-◌}
+use native.Mathlib.Omega.{arith}
+use mathlib.Core.Path.{◌≡◌, sym, ap, ◌∙◌}
+use mathlib.Core.Logic.{⊎_elim}
+use Rattle.printed.specs.Pieces.{paths_to}
+use Rattle.printed.proofs.Inputs.{paths-none, paths-more, paths-same}
+use Rattle.printed.proofs.slots.count_paths.Goals as goal
+
+pub loop-k-init : goal.loop-k-init
+loop-k-init c = (paths-none _ _, omega arith, omega arith)
+
+pub has_path-requires : goal.has_path-requires
+has_path-requires c = record { ends_size_in_bounds = c.requires.ends_size_in_bounds; k_in_bounds = omega arith; }
+
+pub loop-k-preserved : goal.loop-k-preserved
+loop-k-preserved c =
+    ⊎_elim
+    (λ w. (w.1 ∙ paths-more _ _ _ _ c.loop-k.invariant.0 (sym w.0.taken ∙ c.has_path.ensures), omega arith, omega arith))
+    (λ w. (w.1 ∙ paths-same _ _ _ _ c.loop-k.invariant.0 (sym w.0.left ∙ c.has_path.ensures), omega arith, omega arith))
+    c.if-has_path.branch
+
+pub returns : goal.returns
+returns c =
+    let e : c.loop-k.k ≡ c.args.n = omega arith in
+    c.loop-k.invariant.0 ∙ ap (paths_to c.args.input.now c.args.records.now) e

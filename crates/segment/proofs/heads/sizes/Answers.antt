@@ -1,0 +1,6 @@
+-- `sizes` meets its contract.
+use Rattle.segment.proofs.Fields.{sizes-are}
+use Rattle.segment.proofs.heads.sizes.Goals as goal
+
+pub returns : goal.returns
+returns c = sizes-are _ c.be16-cores.ensures c.be16-others.ensures c.be32-bodies.ensures
