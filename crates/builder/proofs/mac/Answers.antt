@@ -10,5 +10,5 @@ use Rattle.builder.proofs.mac.Goals as goal
 
 pub returns : goal.returns
 returns c =
-    let l : length c.args.t3 ≡ 6 = search rules in
+    let l : length c.args.m ≡ 6 = search rules in
     wrote _ _ _ _ 6 _ l (c.copy.ensures ∙ ap (written _ _) (take_all 6 _ (omega arith))) c.past.ensures

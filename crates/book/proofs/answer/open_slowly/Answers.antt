@@ -8,20 +8,20 @@ use Rattle.book.proofs.answer.open_slowly.Goals as goal
 pub returns-in-Refused : goal.returns-in-Refused
 unfolding no_offsets
 returns-in-Refused c =
-    let p = by-sizes _ c.sizes_verdict-s.ensures c.enum_told-1.given.1 in
-    (p, open-refused _ p c.enum_told-1.given.1)
+    let p = by-sizes _ c.sizes_verdict-s.ensures c.in-Refused.is in
+    (p, open-refused _ p c.in-Refused.is)
 
 pub fill_rows-v-requires : goal.fill_rows-v-requires
 unfolding no_offsets
-fill_rows-v-requires c = record { sized = sized-book _ c.sizes_verdict-s.ensures c.enum_told-in_default-1.given.1; table_value = refl; }
+fill_rows-v-requires c = record { sized = sized-book _ c.sizes_verdict-s.ensures c.in_default.is; table_value = refl; }
 
 pub returns-in-Refused-v : goal.returns-in-Refused-v
 unfolding no_offsets
 returns-in-Refused-v c =
-    let p = by-bodies _ c.sizes_verdict-s.ensures c.enum_told-in_default-1.given.1 c.fill_rows-v.ensures.0 in
-    (p, open-refused _ p c.enum_told-in-Refused-v-1.given.1)
+    let p = by-bodies _ c.sizes_verdict-s.ensures c.in_default.is c.fill_rows-v.ensures.0 in
+    (p, open-refused _ p c.in-Refused-v.is)
 
 pub returns : goal.returns
 returns c =
-    let p = by-bodies _ c.sizes_verdict-s.ensures c.enum_told-in_default-1.given.1 c.fill_rows-v.ensures.0 in
-    (p, c.fill_rows-v.ensures.1 c.enum_told-in_default-v-1.given.1 ∙ sym (open-accepted _ p c.enum_told-in_default-v-1.given.1))
+    let p = by-bodies _ c.sizes_verdict-s.ensures c.in_default.is c.fill_rows-v.ensures.0 in
+    (p, c.fill_rows-v.ensures.1 c.in_default-v.is ∙ sym (open-accepted _ p c.in_default-v.is))

@@ -27,7 +27,7 @@ fill_row-v-requires c = record { body = body-fits _ c.requires.sized _ (rw c.seg
 pub returns-in-Refused : goal.returns-in-Refused
 returns-in-Refused c =
     let l = c.loop-k.invariant in
-    let e = c.enum_told-1.given.1 in
+    let e = c.in-Refused.is in
     let says = body_refused _ _ l.2 (c.wide.ensures.0 ∙ c.length_within.ensures) (c.wide-n.ensures.0 ∙ c.count_within.ensures) c.fill_row-v.ensures.0 e in
     (sym (l.4 ∙ bodies-refused _ _ _ _ c.loop-k-test.true says ∙ sym e), λ q. not-accepted (sym e ∙ q))
 
@@ -36,7 +36,7 @@ passes_twice-requires c =
     let l = c.loop-k.invariant in
     let size = c.wide.ensures.0 ∙ c.length_within.ensures in
     let count = c.wide-n.ensures.0 ∙ c.count_within.ensures in
-    let e = c.enum_told-in_default-1.given.1 in
+    let e = c.in_default.is in
     let z = body-fits _ c.requires.sized _ (rw c.segment_count-count.ensures.0 at c.loop-k-test.true) l.2 size count in
     row_within _ z (sym c.fill_row-v.ensures.0 ∙ e) _ (ap length l.3 ∙ rows-length _ _) (c.fill_row-v.ensures.1 e)
 
@@ -45,7 +45,7 @@ returns-then-passes_twice c =
     let l = c.loop-k.invariant in
     let size = c.wide.ensures.0 ∙ c.length_within.ensures in
     let count = c.wide-n.ensures.0 ∙ c.count_within.ensures in
-    let e = c.enum_told-in_default-1.given.1 in
+    let e = c.in_default.is in
     let z = body-fits _ c.requires.sized _ (rw c.segment_count-count.ensures.0 at c.loop-k-test.true) l.2 size count in
     let fits = sym c.fill_row-v.ensures.0 ∙ e in
     let same = row-twice _ z fits _ (ap length l.3 ∙ rows-length _ _) (c.fill_row-v.ensures.1 e) in
@@ -57,7 +57,7 @@ loop-k-preserved c =
     let l = c.loop-k.invariant in
     let size = c.wide.ensures.0 ∙ c.length_within.ensures in
     let count = c.wide-n.ensures.0 ∙ c.count_within.ensures in
-    let e = c.enum_told-in_default-1.given.1 in
+    let e = c.in_default.is in
     let z = body-fits _ c.requires.sized _ (rw c.segment_count-count.ensures.0 at c.loop-k-test.true) l.2 size count in
     let fits = sym c.fill_row-v.ensures.0 ∙ e in
     let same = row-twice _ z fits _ (ap length l.3 ∙ rows-length _ _) (c.fill_row-v.ensures.1 e) in

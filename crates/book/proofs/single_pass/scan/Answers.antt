@@ -55,7 +55,7 @@ loop-k-preserved c =
     let test = c.loop-k-test.true in
     let count = c.wide-n.ensures.0 ∙ head-count _ _ l.6 c.pair.ensures in
     let size = c.wide.ensures.0 ∙ head-length _ _ l.6 c.pair-in-loop-k.ensures in
-    let passed = c.row_passes.ensures (not-false _ c.if-not-row_passes.false) in (
+    let passed = c.row_passes.ensures c.if-not-row_passes.false in (
       omega arith,
       c.if-book-end.false,
       body-next _ _ l.2 size,

@@ -9,11 +9,11 @@ use Rattle.graph.proofs.chains.arrives.Goals as goal
 
 pub returns-then-not-same_vertex : goal.returns-then-not-same_vertex
 unfolding has_arrived
-returns-then-not-same_vertex c = fails _ c.same_vertex.ensures (not-true _ c.if-not-same_vertex.true)
+returns-then-not-same_vertex c = fails _ c.same_vertex.ensures c.if-not-same_vertex.true
 
 pub returns-then-not-kinds_allowed : goal.returns-then-not-kinds_allowed
 unfolding has_arrived
-returns-then-not-kinds_allowed c = passes c.same_vertex.ensures (not-false _ c.if-not-same_vertex.false) (fails _ c.kinds_allowed.ensures (not-true _ c.if-not-kinds_allowed.true))
+returns-then-not-kinds_allowed c = passes c.same_vertex.ensures c.if-not-same_vertex.false (fails _ c.kinds_allowed.ensures c.if-not-kinds_allowed.true)
 
 pub own_solution-requires : goal.own_solution-requires
 own_solution-requires c = c.requires.count_le_max_edges
@@ -24,6 +24,6 @@ same_record-requires c = c.requires.given_len
 pub returns : goal.returns
 unfolding has_arrived
 returns c =
-    passes c.same_vertex.ensures (not-false _ c.if-not-same_vertex.false)
-    (passes c.kinds_allowed.ensures (not-false _ c.if-not-kinds_allowed.false)
+    passes c.same_vertex.ensures c.if-not-same_vertex.false
+    (passes c.kinds_allowed.ensures c.if-not-kinds_allowed.false
     (c.same_record.ensures ∙ ap (λ s. same_list c.args.given.now (record_octets s)) c.own_solution.ensures))

@@ -7,7 +7,7 @@ pub returns-in-Refused : goal.returns-in-Refused
 returns-in-Refused c = (refused-said _ _ c.«open».ensures.0 _ _ _ _ c.v-1.given.1, c.«open».ensures.1)
 
 pub chain_in-requires : goal.chain_in-requires
-chain_in-requires c = opened-ready _ _ c.«open».ensures.0 c.«open».ensures.1 c.enum_told-1.given.1
+chain_in-requires c = opened-ready _ _ c.«open».ensures.0 c.«open».ensures.1 c.in-Refused.is
 
 pub returns : goal.returns
-returns c = (accepted-said _ _ c.«open».ensures.0 _ _ _ c.enum_told-1.given.1 c.chain_in.ensures, c.«open».ensures.1)
+returns c = (accepted-said _ _ c.«open».ensures.0 _ _ _ c.in-Refused.is c.chain_in.ensures, c.«open».ensures.1)

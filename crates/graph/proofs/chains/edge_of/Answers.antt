@@ -36,7 +36,7 @@ pub returns-then-not-is_first : goal.returns-then-not-is_first
 unfolding found_edges
 returns-then-not-is_first c =
     let z = counted _ c.requires.ok _ c.sizes_within-sizes.ensures in
-    sym (identified-repeat _ _ (omega arith) (sym c.is_first.ensures ∙ not-true _ c.if-not-is_first.true))
+    sym (identified-repeat _ _ (omega arith) (sym c.is_first.ensures ∙ c.if-not-is_first.true))
 
 pub stored_edge-requires : goal.stored_edge-requires
 stored_edge-requires c =
@@ -45,4 +45,4 @@ stored_edge-requires c =
 pub returns : goal.returns
 returns c =
     let z = counted _ c.requires.ok _ c.sizes_within-sizes.ensures in
-    c.stored_edge.ensures ∙ sym (identified-first _ _ (omega arith) (sym c.is_first.ensures ∙ not-false _ c.if-not-is_first.false))
+    c.stored_edge.ensures ∙ sym (identified-first _ _ (omega arith) (sym c.is_first.ensures ∙ c.if-not-is_first.false))

@@ -17,11 +17,11 @@ edge_of-found-requires c = c.requires.ready
 
 pub returns-in_default : goal.returns-in_default
 unfolding begun
-returns-in_default c = sym (c.loop-x.invariant.2 ∙ edge-gone _ _ _ _ _ _ c.loop-x-test.true c.edge-id.ensures _ c.edge_of-found.ensures c.enum_told-1.given.1)
+returns-in_default c = sym (c.loop-x.invariant.2 ∙ edge-gone _ _ _ _ _ _ c.loop-x-test.true c.edge-id.ensures _ c.edge_of-found.ensures c.in_default.is)
 
 pub returns-then-not-goes_on : goal.returns-then-not-goes_on
 unfolding begun
-returns-then-not-goes_on c = sym (c.loop-x.invariant.2 ∙ edge-astray _ _ _ _ _ _ c.loop-x-test.true c.edge-id.ensures _ c.edge_of-found.ensures c.found-1.given.1 c.goes_on.ensures (not-true _ c.if-not-goes_on.true))
+returns-then-not-goes_on c = sym (c.loop-x.invariant.2 ∙ edge-astray _ _ _ _ _ _ c.loop-x-test.true c.edge-id.ensures _ c.edge_of-found.ensures c.found-1.given.1 c.goes_on.ensures c.if-not-goes_on.true)
 
 pub one_further-reached-requires : goal.one_further-reached-requires
 one_further-reached-requires c = bounded-two _ _ (omega (arith, c.requires.count_le_max_edges)) c.loop-x.invariant.1
@@ -33,7 +33,7 @@ pub loop-x-preserved : goal.loop-x-preserved
 loop-x-preserved c = (
   omega arith,
   bounded-further _ _ _ (omega (arith, c.requires.count_le_max_edges)) c.loop-x.invariant.1 c.one_further-reached.ensures.0 c.one_further-reached.ensures.1,
-  c.loop-x.invariant.2 ∙ edge-passed _ _ _ _ _ _ c.loop-x-test.true c.edge-id.ensures _ c.edge_of-found.ensures c.found-1.given.1 c.goes_on.ensures (not-false _ c.if-not-goes_on.false) c.one_further-reached.ensures.0,
+  c.loop-x.invariant.2 ∙ edge-passed _ _ _ _ _ _ c.loop-x-test.true c.edge-id.ensures _ c.edge_of-found.ensures c.found-1.given.1 c.goes_on.ensures c.if-not-goes_on.false c.one_further-reached.ensures.0,
 
 pub arrives-requires : goal.arrives-requires
 arrives-requires c = c.requires.1

@@ -9,7 +9,7 @@ pub returns-in_default : goal.returns-in_default
 unfolding found_edges
 returns-in_default c =
     let p = c.requires in
-    between-peering _ _ p.k_value p.filled.count p.filled.some c.enum_told-1.given.1 _
+    between-peering _ _ p.k_value p.filled.count p.filled.some c.in_default.is _
 
 pub edge_of_core-requires : goal.edge_of_core-requires
 edge_of_core-requires c = c.requires.filled.some

@@ -14,7 +14,7 @@ returns-then-n-eq0 c = empty-leaving _ c.count_of-n.ensures.0 c.if-n-eq0.true _
 pub returns-in_default : goal.returns-in_default
 unfolding found_edges
 returns-in_default c =
-    leaving-peering _ _ c.requires.k_value c.count_of-n.ensures.0 (omega arith) c.enum_told-1.given.1
+    leaving-peering _ _ c.requires.k_value c.count_of-n.ensures.0 (omega arith) c.in_default.is
 
 pub returns-then-same_as : goal.returns-then-same_as
 unfolding found_edges

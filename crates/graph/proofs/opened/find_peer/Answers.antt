@@ -21,7 +21,7 @@ pub returns-then-not-same_as : goal.returns-then-not-same_as
 returns-then-not-same_as c =
     let p = c.requires in
     link-none (segment_at c.args.book.now c.args.k) c.args.link _
-    (here-test _ _ p.ready _ p.k_bound _ p.i_bound _ c.offset_at-at.ensures.0 c.as_within.ensures c.same_as.ensures (not-true _ c.if-not-same_as.true))
+    (here-test _ _ p.ready _ p.k_bound _ p.i_bound _ c.offset_at-at.ensures.0 c.as_within.ensures c.same_as.ensures c.if-not-same_as.true)
 
 pub peers_at-p-requires : goal.peers_at-p-requires
 peers_at-p-requires c =
@@ -47,7 +47,7 @@ returns-then-same_peer c =
     let p = c.requires in
     sink-stop _ _ _ c.loop-p.invariant (omega arith)
     (peer-test _ _ p.ready _ p.k_bound _ p.i_bound c.args.link
-    (here-test _ _ p.ready _ p.k_bound _ p.i_bound _ c.offset_at-at.ensures.0 c.as_within.ensures c.same_as.ensures (not-false _ c.if-not-same_as.false))
+    (here-test _ _ p.ready _ p.k_bound _ p.i_bound _ c.offset_at-at.ensures.0 c.as_within.ensures c.same_as.ensures c.if-not-same_as.false)
     _ (omega arith) c.offset_at-at.ensures.0 c.peer_offset.ensures c.same_peer.ensures c.if-same_peer.true)
 
 pub loop-p-preserved : goal.loop-p-preserved
@@ -55,7 +55,7 @@ loop-p-preserved c =
     let p = c.requires in
     sink-turn _ _ _ c.loop-p.invariant (omega arith)
     (peer-test _ _ p.ready _ p.k_bound _ p.i_bound c.args.link
-    (here-test _ _ p.ready _ p.k_bound _ p.i_bound _ c.offset_at-at.ensures.0 c.as_within.ensures c.same_as.ensures (not-false _ c.if-not-same_as.false))
+    (here-test _ _ p.ready _ p.k_bound _ p.i_bound _ c.offset_at-at.ensures.0 c.as_within.ensures c.same_as.ensures c.if-not-same_as.false)
     _ (omega arith) c.offset_at-at.ensures.0 c.peer_offset.ensures c.same_peer.ensures c.if-same_peer.false)
 
 pub returns : goal.returns

@@ -21,4 +21,4 @@ returns-in-Edge c =
 pub returns-in-Nothing : goal.returns-in-Nothing
 returns-in-Nothing c =
     let p = c.requires in
-    pushes-none (omega arith) (across-nothing _ _ _ _ _ (omega arith) p.core_value c.core_leaving-found.ensures c.enum_told-1.given.1)
+    pushes-none (omega arith) (across-nothing _ _ _ _ _ (omega arith) p.core_value c.core_leaving-found.ensures c.in-Nothing.is)

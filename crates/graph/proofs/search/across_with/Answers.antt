@@ -8,7 +8,7 @@ pub returns-then-same_vertex : goal.returns-then-same_vertex
 returns-then-same_vertex c = pushes-as c.push_two.ensures (across-arrived _ _ _ _ _ c.same_vertex.ensures c.if-same_vertex.true)
 
 pub returns-in_default : goal.returns-in_default
-returns-in_default c = no-link-end _ c.requires.f_value c.enum_told-1.given.1
+returns-in_default c = no-link-end _ c.requires.f_value c.in_default.is
 
 pub last_edges-requires : goal.last_edges-requires
 last_edges-requires c = record { prepared = c.requires.prepared; fact = inr c.to-1.given.1; room = c.requires.room; }

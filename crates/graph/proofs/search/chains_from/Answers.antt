@@ -14,7 +14,7 @@ last_edges-requires c = let p = c.requires in record { prepared = p.prepared; fa
 
 pub returns-in_default : goal.returns-in_default
 returns-in_default c = let p = c.requires.prepared in
-    pushes-as c.last_edges.ensures (chains-link _ _ _ _ _ _ p.cores p.count p.within c.same_vertex.ensures c.if-same_vertex.false c.enum_told-1.given.1)
+    pushes-as c.last_edges.ensures (chains-link _ _ _ _ _ _ p.cores p.count p.within c.same_vertex.ensures c.if-same_vertex.false c.in_default.is)
 
 pub last_edges-requires-then-e : goal.last_edges-requires-then-e
 last_edges-requires-then-e c = let p = c.requires in record { prepared = p.prepared; fact = inr c.to-1.given.1; room = p.room; }

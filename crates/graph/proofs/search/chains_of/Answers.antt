@@ -8,4 +8,4 @@ pub returns-in-Edge : goal.returns-in-Edge
 returns-in-Edge c = pushes-as c.chains_from.ensures (of-edge _ _ _ c.found-1.given.1)
 
 pub returns-in-Nothing : goal.returns-in-Nothing
-returns-in-Nothing c = pushes-none (omega arith) (of-nothing _ _ c.enum_told-1.given.1)
+returns-in-Nothing c = pushes-none (omega arith) (of-nothing _ _ c.in-Nothing.is)

@@ -13,7 +13,7 @@ pub edge_between_ases-requires-in-Two : goal.edge_between_ases-requires-in-Two
 edge_between_ases-requires-in-Two c = let p = c.requires in record { ready = p.ready; k_bound = p.book_bound.1; k_value = other_at _ _ p.book_bound.0; }
 
 pub returns-in-One : goal.returns-in-One
-returns-in-One c = whole-at _ _ _ _ (not-link (λ z. z) c.enum_told-in-One-1.given.1 c.requires.fact) c.edge_between_ases.ensures
+returns-in-One c = whole-at _ _ _ _ (not-link (λ z. z) c.in-One.is c.requires.fact) c.edge_between_ases.ensures
 
 pub returns-in-Two : goal.returns-in-Two
-returns-in-Two c = whole-at _ _ _ _ (not-link (λ z. z) c.enum_told-in-Two-1.given.1 c.requires.fact) c.edge_between_ases-in-Two.ensures
+returns-in-Two c = whole-at _ _ _ _ (not-link (λ z. z) c.in-Two.is c.requires.fact) c.edge_between_ases-in-Two.ensures

@@ -17,11 +17,11 @@ returns-then-a-b-2 c =
 pub returns-then-not-same_as : goal.returns-then-not-same_as
 returns-then-not-same_as c =
     let a = c.args in
-    links-local a.a a.b (sym c.same_as.ensures ∙ not-true _ c.if-not-same_as.true)
+    links-local a.a a.b (sym c.same_as.ensures ∙ c.if-not-same_as.true)
 
 pub returns : goal.returns
 returns c =
     let a = c.args in
     c.same_as-2.ensures
     ∙ links-peer a.a a.b c.if-a-b.false c.if-a-b-2.false
-    (sym c.same_as.ensures ∙ not-false _ c.if-not-same_as.false)
+    (sym c.same_as.ensures ∙ c.if-not-same_as.false)

@@ -8,10 +8,10 @@ pub returns-in-AS-w : goal.returns-in-AS-w
 returns-in-AS-w c = as-as c.v-1.given.1 c.w-1.given.1 c.same_as.ensures
 
 pub returns-in-Peering-w : goal.returns-in-Peering-w
-returns-in-Peering-w c = as-peering c.v-1.given.1 c.enum_told-1.given.1
+returns-in-Peering-w c = as-peering c.v-1.given.1 c.in-Peering-w.is
 
 pub returns-in-AS-w-2 : goal.returns-in-AS-w-2
-returns-in-AS-w-2 c = peering-as c.v-in-Peering-v-1.given.1 c.enum_told-in-AS-w-2-1.given.1
+returns-in-AS-w-2 c = peering-as c.v-in-Peering-v-1.given.1 c.in-AS-w-2.is
 
 pub returns-in-Peering-w-2 : goal.returns-in-Peering-w-2
 returns-in-Peering-w-2 c =
