@@ -6,6 +6,7 @@ ghost use Rattle.std.specs.Prelude.{◌≤◌};
 ghost use Rattle.spec.specs.Limits.{max_slots};
 
 use spec::{AsEntry, Head, HopField, IsdAsn, Limits, ListAnswer, PeerEntry, Sizes, Solution};
+use std::io;
 
 // Four ASes.
 const A: u64 = 0x0001_ff00_0000_0110;
@@ -21,19 +22,27 @@ fn record(rt: &impl Print, out: &[u8], k: usize) -> io::Result<()>
     requires { k ≤ max_slots }
 {
     let at = Solution::SIZE * k;
-    rt.write_all(b" ")?;
-    io::print_hex(libc::STDOUT_FILENO, octets::be64(out, at), 16);
-    io::print_hex(libc::STDOUT_FILENO, octets::be64(out, at + 8), 16);
-    Ok(())
+    print!(rt;
+        " {:016x}{:016x}",
+        octets::be64(out, at),
+        octets::be64(out, at + 8)
+    )
 }
 
-fn show(rt: &impl Print, label: &[u8], src: u64, dst: u64, book: &[u8], out: &mut [u8]) -> io::Result<()> {
+fn show(
+    rt: &impl Print,
+    label: &[u8],
+    src: u64,
+    dst: u64,
+    book: &[u8],
+    out: &mut [u8],
+) -> io::Result<()> {
     rt.write_all(label)?;
     rt.write_all(b": ")?;
     let answer = graph::list(IsdAsn(src), IsdAsn(dst), book, out);
     match answer {
         ListAnswer::Count(n) => {
-            io::print_decimal(libc::STDOUT_FILENO, n as u64);
+            print!(rt; "{n}")?;
             if 0 < n {
                 if n <= Limits::SLOTS {
                     record(rt, out, 0)?;
@@ -42,8 +51,7 @@ fn show(rt: &impl Print, label: &[u8], src: u64, dst: u64, book: &[u8], out: &mu
             }
         }
         ListAnswer::Refused(r) => {
-            rt.write_all(b"refused ")?;
-            io::print_decimal(libc::STDOUT_FILENO, r.number() as u64);
+            print!(rt; "refused {}", r.number())?;
         }
     }
     rt.write_all(b"\n")
@@ -149,7 +157,14 @@ fn twice(rt: &impl Print, out: &mut [u8]) -> io::Result<()> {
     segment(&mut book, 2, 0, B, A);
     segment(&mut book, 2, 1, X, X);
     let mut few = [0u8; Solution::SIZE - 1];
-    show(rt, b"one AS twice in a segment, no slot", A, B, &book, &mut few)?;
+    show(
+        rt,
+        b"one AS twice in a segment, no slot",
+        A,
+        B,
+        &book,
+        &mut few,
+    )?;
     show(rt, b"one AS twice in a segment", A, B, &book, out)?;
     show(rt, b"and ends that are equal", A, A, &book, out)?;
     segment(&mut book, 2, 1, X, Y);
