@@ -115,16 +115,16 @@ def question(kind):
 # What CasesForm defines by more than a number or a list.
 FORMS = {
     "[]": [], "replicate": lambda n, x: [x] * n, "length": len, "take": lambda n, xs: xs[:n], "drop": lambda n, xs: xs[n:],
-    "set": lambda xs, i, x: xs[:i] + [x] + xs[i + 1:], "map": lambda f, xs: [f(x) for x in xs], "flatMap": lambda f, xs: joined(map(f, xs)),
-    "pathSize": PATH_SIZE,
+    "set": lambda xs, i, x: xs[:i] + [x] + xs[i + 1:], "map": lambda f, xs: [f(x) for x in xs], "flat_map": lambda f, xs: joined(map(f, xs)),
+    "path_size": PATH_SIZE,
     "octets2": number(2), "octets4": number(4), "octets8": number(8), "Printed.ascii": lambda t: list(t.encode()), "ascii": lambda t: list(t.encode()),
     "entry": entry, "peer": peer, "segment": lambda timestamp, ident, entries: (timestamp, ident, entries), "book": book,
     "edge": lambda *numbers: list(numbers), "solution": solution, "input": lambda b, src, dst: list(struct.pack(">QQ", src, dst)) + b,
     "case": lambda asked, expected: (asked, expected),
     **{kind: question(kind) for kind in ("accept", "list", "route", "print", "assemble", "least", "sketch", "hold", "room", "live", "write", "read", "writes",
-                                         "reads", "send", "carry", "compared", "comparedAll")},
+                                         "reads", "send", "carry", "compared", "compared_all")},
 }
-TAKEN = re.compile(r"^use Rattle·spec·proofs\.proofs\.(\w+)\.\{([^}]*)\}", re.M)
+TAKEN = re.compile(r"^use Rattle\.spec\.proofs\.(\w+)\.\{([^}]*)\}", re.M)
 DEFINITION = re.compile(r"^(?:unfoldable |abbrev )?(?:pub )?(\w+) : [^\n]*\n\1((?: \w+)*) =\n?(.*?)(?=\n\n|\Z)", re.S | re.M)
 
 
@@ -145,7 +145,7 @@ def definitions(name, names, others):
         names.update({taken: others[m[1]][taken] for taken in m[2].split(", ") if taken in others.get(m[1], {})})
     for m in DEFINITION.finditer(text):
         called, parameters, body = m.group(1), m.group(2).split(), m.group(3)
-        if called in FORMS or called in ("isdAsn", "body", "head", "sketchOf", "answer", "right", "unhashed"):
+        if called in FORMS or called in ("isd_asn", "body", "head", "sketch_of", "answer", "right", "unhashed"):
             continue
         if parameters:
             names[called] = function(parameters, body, names)
@@ -350,7 +350,7 @@ def modelled_answer(words):
         return held(*wire_parts(bytes(words[1])))
     if words[0] == "compared":
         return compared(bytes(words[1]), pairwise(map(bytes, words[2])))
-    if words[0] == "comparedAll":
+    if words[0] == "compared_all":
         records = [model.record(chain) for chain in model.solutions(bytes(words[1]), *words[2:])]
         return compared(bytes(words[1]), product(records, repeat=2))
     if words[0] == "accept":
