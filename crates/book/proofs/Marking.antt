@@ -1,16 +1,16 @@
 -- Bits of a word, and what the marks among them say of ASes.
 -- Assumes nothing.
-use mathlib.Core.Path.{◌≡◌, refl, sym, ap, ap₂, ◌∙◌}
+use mathlib.Core.Path.{◌≡◌, refl, sym, ap, ◌∙◌}
 use mathlib.Core.Bool.{Bool, true, false}
 use mathlib.Core.List.{List}
-use Prim.Native.Nat.{ℕ, ◌+◌, ◌*◌, ◌/◌, ◌%◌, ◌^◌, ◌≤◌, ◌<◌}
+use Prim.Native.Nat.{ℕ, ◌+◌, ◌*◌, ◌/◌, ◌%◌, ◌^◌, ◌<◌}
 use native.Mathlib.Decide.{ℕ_discrete}
 use native.Mathlib.Omega.{arith}
 use lib.ListN.{get_or}
 use lib.Bits.{bit_and, bit_or, or_shr, or_mod, or_zero_l, or_zero_r, or_self, and_mask}
 use lib.Pow.{shl_exact, shl-shr}
 use Rattle.spec.specs.declared.IsdAsn.{IsdAsn}
-use Rattle.spec.specs.Octets.{be64, be32}
+use Rattle.spec.specs.Octets.{be64}
 use Rattle.spec.specs.Book.{same_as, isd_asn_at}
 use Rattle.spec.proofs.Vertices.{same_as-eq}
 use Rattle.octets.proofs.Halves.{four_bytes}

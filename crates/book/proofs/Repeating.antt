@@ -1,7 +1,7 @@
 -- ASes that stand twice: in a row of the table as in the body that it is of, and what that says of the body.
 -- Assumes nothing.
 use mathlib.Core.Path.{◌≡◌, refl, sym, ap, ◌∙◌}
-use mathlib.Core.Bool.{Bool, true, false}
+use mathlib.Core.Bool.{Bool, false}
 use mathlib.Core.List.{List}
 use Prim.Native.Nat.{ℕ, zero, suc, ◌+◌, ◌*◌, ◌-◌, ◌^◌, ◌≤◌, ◌<◌}
 use native.Mathlib.Decide.{ℕ_discrete}
@@ -14,7 +14,7 @@ use Rattle.spec.specs.declared.Refusal.{Refusal}
 use Rattle.spec.specs.declared.Refusal.TheVariants.{Twice}
 use Rattle.spec.specs.declared.Verdict.{Verdict}
 use Rattle.spec.specs.declared.Verdict.TheVariants.{Accepted, Refused}
-use Rattle.spec.specs.Limits.{max_segments, max_entries, entry_size}
+use Rattle.spec.specs.Limits.{max_segments, max_entries}
 use Rattle.spec.specs.Basics.{if◌then◌else◌, any, range}
 use Rattle.spec.specs.Octets.{Bytes, be32, be64}
 use Rattle.spec.specs.Book.{entry_count_at, body_length_at, body_offset, same_as, isd_asn_at, entry_offset, local_at, has_local_of, stands_earlier, passes_twice, entries_verdict, body_verdict, ◌and_then◌}

@@ -6,6 +6,7 @@ ghost use Rattle.std.specs.Prelude.{◌≤◌};
 ghost use Rattle.spec.specs.Limits.{max_slots};
 
 use spec::{AsEntry, Head, HopField, IsdAsn, Limits, ListAnswer, PeerEntry, Sizes, Solution};
+use std::io;
 
 // Four ASes.
 const A: u64 = 0x0001_ff00_0000_0110;
@@ -17,35 +18,43 @@ const X: u64 = 0x0001_ff00_0000_0120;
 const Y: u64 = 0x0001_ff00_0000_0121;
 
 // The record in slot k.
-fn record(out: &[u8], k: usize)
+fn record(rt: &impl Print, out: &[u8], k: usize) -> io::Result<()>
     requires { k ≤ max_slots }
 {
     let at = Solution::SIZE * k;
-    io::write_all(libc::STDOUT_FILENO, b" ");
-    io::print_hex(libc::STDOUT_FILENO, octets::be64(out, at), 16);
-    io::print_hex(libc::STDOUT_FILENO, octets::be64(out, at + 8), 16);
+    print!(rt;
+        " {:016x}{:016x}",
+        octets::be64(out, at),
+        octets::be64(out, at + 8)
+    )
 }
 
-fn show(label: &[u8], src: u64, dst: u64, book: &[u8], out: &mut [u8]) {
-    io::write_all(libc::STDOUT_FILENO, label);
-    io::write_all(libc::STDOUT_FILENO, b": ");
+fn show(
+    rt: &impl Print,
+    label: &[u8],
+    src: u64,
+    dst: u64,
+    book: &[u8],
+    out: &mut [u8],
+) -> io::Result<()> {
+    rt.write_all(label)?;
+    rt.write_all(b": ")?;
     let answer = graph::list(IsdAsn(src), IsdAsn(dst), book, out);
     match answer {
         ListAnswer::Count(n) => {
-            io::print_decimal(libc::STDOUT_FILENO, n as u64);
+            print!(rt; "{n}")?;
             if 0 < n {
                 if n <= Limits::SLOTS {
-                    record(out, 0);
-                    record(out, n - 1);
+                    record(rt, out, 0)?;
+                    record(rt, out, n - 1)?;
                 }
             }
         }
         ListAnswer::Refused(r) => {
-            io::write_all(libc::STDOUT_FILENO, b"refused ");
-            io::print_decimal(libc::STDOUT_FILENO, r.number() as u64);
+            print!(rt; "refused {}", r.number())?;
         }
     }
-    io::write_all(libc::STDOUT_FILENO, b"\n");
+    rt.write_all(b"\n")
 }
 
 // ---- books of segments of two entries
@@ -102,66 +111,73 @@ fn crossings(book: &mut [u8], count: u8) {
     segments(book, count, 32, 48, Y, B);
 }
 
-fn crossed(out: &mut [u8]) {
+fn crossed(rt: &impl Print, out: &mut [u8]) -> io::Result<()> {
     let mut book = [0u8; Sizes::SIZE + 48 * SEGMENT];
     put_sizes(&mut book, 16, 32);
     crossings(&mut book, 48);
-    show(b"4096 chains", A, B, &book, out);
-    show(b"no segment names the ends", 1, 2, &book, out);
-    show(b"source and destination equal", A, A, &book, out);
+    show(rt, b"4096 chains", A, B, &book, out)?;
+    show(rt, b"no segment names the ends", 1, 2, &book, out)?;
+    show(rt, b"source and destination equal", A, A, &book, out)
 }
 
 // One chain more, of one edge.
-fn overfull(out: &mut [u8]) {
+fn overfull(rt: &impl Print, out: &mut [u8]) -> io::Result<()> {
     let mut book = [0u8; Sizes::SIZE + 49 * SEGMENT];
     put_sizes(&mut book, 16, 33);
     crossings(&mut book, 49);
     segment(&mut book, 49, 48, B, A);
-    show(b"4097 chains", A, B, &book, out);
+    show(rt, b"4097 chains", A, B, &book, out)
 }
 
 const MOST: u8 = Limits::SEGMENTS as u8;
 
-fn crowd(out: &mut [u8]) {
+fn crowd(rt: &impl Print, out: &mut [u8]) -> io::Result<()> {
     let mut book = [0u8; Sizes::SIZE + Limits::SEGMENTS * SEGMENT];
     put_sizes(&mut book, 0, MOST as u16);
     segments(&mut book, MOST, 0, MOST, B, A);
-    show(b"64 segments", A, B, &book, out);
+    show(rt, b"64 segments", A, B, &book, out)
 }
 
-fn slots(out: &mut [u8]) {
+fn slots(rt: &impl Print, out: &mut [u8]) -> io::Result<()> {
     let mut book = [0u8; Sizes::SIZE + SEGMENT];
     put_sizes(&mut book, 0, 1);
     segment(&mut book, 1, 0, B, A);
     let mut few = [0u8; Solution::SIZE - 1];
-    show(b"one solution, no slot", A, B, &book, &mut few);
+    show(rt, b"one solution, no slot", A, B, &book, &mut few)?;
     let mut one = [0u8; Solution::SIZE];
-    show(b"one solution, one slot", A, B, &book, &mut one);
-    show(b"in construction direction", B, A, &book, out);
-    show(b"no segment", A, B, &book[..0], out);
+    show(rt, b"one solution, one slot", A, B, &book, &mut one)?;
+    show(rt, b"in construction direction", B, A, &book, out)?;
+    show(rt, b"no segment", A, B, &book[..0], out)
 }
 
 // A segment of two entries of one AS, beside one that has a solution.
-fn twice(out: &mut [u8]) {
+fn twice(rt: &impl Print, out: &mut [u8]) -> io::Result<()> {
     let mut book = [0u8; Sizes::SIZE + 2 * SEGMENT];
     put_sizes(&mut book, 0, 2);
     segment(&mut book, 2, 0, B, A);
     segment(&mut book, 2, 1, X, X);
     let mut few = [0u8; Solution::SIZE - 1];
-    show(b"one AS twice in a segment, no slot", A, B, &book, &mut few);
-    show(b"one AS twice in a segment", A, B, &book, out);
-    show(b"and ends that are equal", A, A, &book, out);
+    show(
+        rt,
+        b"one AS twice in a segment, no slot",
+        A,
+        B,
+        &book,
+        &mut few,
+    )?;
+    show(rt, b"one AS twice in a segment", A, B, &book, out)?;
+    show(rt, b"and ends that are equal", A, A, &book, out)?;
     segment(&mut book, 2, 1, X, Y);
-    show(b"two ASes in that segment", A, B, &book, out);
+    show(rt, b"two ASes in that segment", A, B, &book, out)
 }
 
 // A core of two entries of one AS.
-fn core_twice(out: &mut [u8]) {
+fn core_twice(rt: &impl Print, out: &mut [u8]) -> io::Result<()> {
     let mut book = [0u8; Sizes::SIZE + 2 * SEGMENT];
     put_sizes(&mut book, 1, 1);
     segment(&mut book, 2, 0, X, X);
     segment(&mut book, 2, 1, B, A);
-    show(b"one AS twice in a core", A, B, &book, out);
+    show(rt, b"one AS twice in a core", A, B, &book, out)
 }
 
 // ---- one segment of the most entries, each with the most peers
@@ -192,32 +208,33 @@ fn longest(book: &mut [u8]) {
     }
 }
 
-fn long(out: &mut [u8]) {
+fn long(rt: &impl Print, out: &mut [u8]) -> io::Result<()> {
     let mut book = [0u8; Sizes::SIZE + Head::SIZE + FULL_BODY];
     longest(&mut book);
     let leaf = X + Limits::ENTRIES as u64 - 1;
-    show(b"16 entries of 4 peers", leaf, X, &book, out);
+    show(rt, b"16 entries of 4 peers", leaf, X, &book, out)?;
     show(
+        rt,
         b"and to the entry below the leaf",
         leaf,
         leaf - 1,
         &book,
         out,
-    );
+    )
 }
 
-fn empty(out: &mut [u8]) {
-    show(b"8 zero bytes", A, B, &[0u8; Sizes::SIZE], out);
+fn empty(rt: &impl Print, out: &mut [u8]) -> io::Result<()> {
+    show(rt, b"8 zero bytes", A, B, &[0u8; Sizes::SIZE], out)
 }
 
-fn main() {
+fn main(rt: HostRuntime) -> io::Result<()> {
     let mut out = [0xffu8; Limits::SLOTS * Solution::SIZE];
-    empty(&mut out);
-    slots(&mut out);
-    twice(&mut out);
-    core_twice(&mut out);
-    crossed(&mut out);
-    overfull(&mut out);
-    crowd(&mut out);
-    long(&mut out);
+    empty(&rt, &mut out)?;
+    slots(&rt, &mut out)?;
+    twice(&rt, &mut out)?;
+    core_twice(&rt, &mut out)?;
+    crossed(&rt, &mut out)?;
+    overfull(&rt, &mut out)?;
+    crowd(&rt, &mut out)?;
+    long(&rt, &mut out)
 }

@@ -4,6 +4,7 @@
 use crate::{BOOK, Kind, book, fill, show_digest, up};
 use order::{Comparison, Order};
 use spec::{AsEntry, Solution, SolutionEdge};
+use std::io;
 
 // ---- records
 
@@ -38,111 +39,131 @@ fn at(positions: [u8; 3]) -> [u8; Solution::SIZE] {
 
 // ---- lines
 
-fn say_order(o: Order) {
+fn say_order(rt: &impl Print, o: Order) -> io::Result<()> {
     match o {
-        Order::Before => {
-            io::write_all(libc::STDOUT_FILENO, b"before ");
-        }
-        Order::Same => {
-            io::write_all(libc::STDOUT_FILENO, b"same ");
-        }
-        Order::After => {
-            io::write_all(libc::STDOUT_FILENO, b"after ");
-        }
+        Order::Before => rt.write_all(b"before "),
+        Order::Same => rt.write_all(b"same "),
+        Order::After => rt.write_all(b"after "),
     }
 }
 
-fn say(c: Comparison) {
+fn say(rt: &impl Print, c: Comparison) -> io::Result<()> {
     let o = c.order;
-    say_order(o);
-    io::print_decimal(libc::STDOUT_FILENO, c.digests as u64);
+    say_order(rt, o)?;
+    print!(rt; "{}", c.digests)
 }
 
 // Book and records of any bytes.
-fn any(name: &[u8], given: &[u8], a: &[u8], b: &[u8]) {
-    io::write_all(libc::STDOUT_FILENO, name);
-    io::write_all(libc::STDOUT_FILENO, b": ");
-    say(order::compare_solutions(given, a, b));
-    io::write_all(libc::STDOUT_FILENO, b", exchanged ");
-    say(order::compare_solutions(given, b, a));
-    io::write_all(libc::STDOUT_FILENO, b"\n");
+fn any(rt: &impl Print, name: &[u8], given: &[u8], a: &[u8], b: &[u8]) -> io::Result<()> {
+    rt.write_all(name)?;
+    rt.write_all(b": ")?;
+    say(rt, order::compare_solutions(given, a, b))?;
+    rt.write_all(b", exchanged ")?;
+    say(rt, order::compare_solutions(given, b, a))?;
+    rt.write_all(b"\n")
 }
 
-fn case(name: &[u8], a: [u8; Solution::SIZE], b: [u8; Solution::SIZE]) {
-    any(name, &book(), &a, &b);
+fn case(
+    rt: &impl Print,
+    name: &[u8],
+    a: [u8; Solution::SIZE],
+    b: [u8; Solution::SIZE],
+) -> io::Result<()> {
+    any(rt, name, &book(), &a, &b)
 }
 
 // ---- by hand
 
 // Every edge is at two positions, and a fingerprint would decide otherwise.
-fn heads() {
-    case(b"cost", counted(6, 3, [2, 2, 2]), counted(7, 3, [3, 3, 3]));
+fn heads(rt: &impl Print) -> io::Result<()> {
     case(
+        rt,
+        b"cost",
+        counted(6, 3, [2, 2, 2]),
+        counted(7, 3, [3, 3, 3]),
+    )?;
+    case(
+        rt,
         b"cost, its first byte",
         counted(255, 3, [2, 2, 2]),
         counted(256, 3, [3, 3, 3]),
-    );
+    )?;
     case(
+        rt,
         b"edge count",
         counted(7, 2, [2, 2, 2]),
         counted(7, 3, [3, 3, 3]),
-    );
+    )
 }
 
 // The edges after the one that decides are at two positions too.
-fn first_edge() {
+fn first_edge(rt: &impl Print) -> io::Result<()> {
     case(
+        rt,
         b"first edge, peer",
         keyed([2, 2, 2], [0, 0, 0], [0, 0, 0]),
         keyed([3, 3, 3], [5, 0, 0], [1, 0, 0]),
-    );
+    )?;
     case(
+        rt,
         b"first edge, shortcut",
         keyed([2, 2, 2], [5, 0, 0], [1, 0, 0]),
         keyed([3, 3, 3], [4, 0, 0], [1, 0, 0]),
-    );
+    )?;
     case(
+        rt,
         b"first edge, two positions",
         keyed([3, 2, 2], [4, 0, 0], [1, 0, 0]),
         keyed([2, 3, 3], [4, 0, 0], [1, 0, 0]),
-    );
+    )
 }
 
-fn second_edge() {
+fn second_edge(rt: &impl Print) -> io::Result<()> {
     case(
+        rt,
         b"second edge, peer",
         keyed([5, 2, 2], [0, 0, 0], [0, 0, 0]),
         keyed([5, 3, 3], [0, 5, 0], [0, 1, 0]),
-    );
+    )?;
     case(
+        rt,
         b"second edge, shortcut",
         keyed([5, 2, 2], [0, 5, 0], [0, 1, 0]),
         keyed([5, 3, 3], [0, 4, 0], [0, 1, 0]),
-    );
+    )?;
     case(
+        rt,
         b"second edge, two positions",
         keyed([5, 3, 2], [0, 4, 0], [0, 1, 0]),
         keyed([5, 2, 3], [0, 4, 0], [0, 1, 0]),
-    );
+    )
 }
 
-fn third_edge() {
+fn third_edge(rt: &impl Print) -> io::Result<()> {
     case(
+        rt,
         b"third edge, peer",
         keyed([5, 0, 2], [0, 0, 0], [0, 0, 0]),
         keyed([5, 0, 3], [0, 0, 5], [0, 0, 1]),
-    );
+    )?;
     case(
+        rt,
         b"third edge, shortcut",
         keyed([5, 0, 2], [0, 0, 5], [0, 0, 1]),
         keyed([5, 0, 3], [0, 0, 4], [0, 0, 1]),
-    );
+    )?;
     case(
+        rt,
         b"third edge, two positions",
         keyed([5, 0, 3], [0, 0, 4], [0, 0, 1]),
         keyed([5, 0, 2], [0, 0, 4], [0, 0, 1]),
-    );
-    case(b"one position at every edge", at([5, 3, 2]), at([5, 3, 2]));
+    )?;
+    case(
+        rt,
+        b"one position at every edge",
+        at([5, 3, 2]),
+        at([5, 3, 2]),
+    )
 }
 
 // Where the second and the third edge start.
@@ -151,152 +172,180 @@ const SECOND: usize = Solution::HEAD + SolutionEdge::SIZE;
 const THIRD: usize = SECOND + SolutionEdge::SIZE;
 
 // What is no key: directions and the zero byte.
-fn no_keys() {
+fn no_keys(rt: &impl Print) -> io::Result<()> {
     let a = at([5, 3, 2]);
     let mut b = a;
     b[Solution::COUNT + 1] = 9;
     b[Solution::HEAD + SolutionEdge::DIRECTION] = 1;
     b[SECOND + SolutionEdge::DIRECTION] = 1;
     b[THIRD + SolutionEdge::DIRECTION] = 1;
-    case(b"directions and the zero byte", a, b);
+    case(rt, b"directions and the zero byte", a, b)
 }
 
 // Positions 4 and 1 have one fingerprint: what follows decides, and the positions would decide otherwise.
-fn after_one() {
+fn after_one(rt: &impl Print) -> io::Result<()> {
     case(
+        rt,
         b"a reissue, then the second edge's peer",
         keyed([4, 2, 2], [0, 0, 0], [0, 0, 0]),
         keyed([1, 3, 3], [0, 5, 0], [0, 1, 0]),
-    );
+    )?;
     case(
+        rt,
         b"a reissue, then the second edge's shortcut",
         keyed([4, 2, 2], [0, 5, 0], [0, 1, 0]),
         keyed([1, 3, 3], [0, 4, 0], [0, 1, 0]),
-    );
+    )?;
     case(
+        rt,
         b"a reissue, then the second edge at two positions",
         keyed([4, 3, 2], [0, 4, 0], [0, 1, 0]),
         keyed([1, 2, 3], [0, 4, 0], [0, 1, 0]),
-    );
+    )
 }
 
-fn after_one_and_another() {
+fn after_one_and_another(rt: &impl Print) -> io::Result<()> {
     case(
+        rt,
         b"a reissue, one position, then the third edge's peer",
         keyed([4, 5, 2], [0, 0, 0], [0, 0, 0]),
         keyed([1, 5, 3], [0, 0, 5], [0, 0, 1]),
-    );
+    )?;
     case(
+        rt,
         b"a reissue, one position, then the third edge's shortcut",
         keyed([4, 5, 2], [0, 0, 5], [0, 0, 1]),
         keyed([1, 5, 3], [0, 0, 4], [0, 0, 1]),
-    );
+    )?;
     case(
+        rt,
         b"a reissue, one position, then the third edge at two positions",
         at([4, 5, 3]),
         at([1, 5, 2]),
-    );
+    )
 }
 
-fn after_the_second() {
+fn after_the_second(rt: &impl Print) -> io::Result<()> {
     case(
+        rt,
         b"one position, a reissue, then the third edge's peer",
         keyed([5, 4, 2], [0, 0, 0], [0, 0, 0]),
         keyed([5, 1, 3], [0, 0, 5], [0, 0, 1]),
-    );
+    )?;
     case(
+        rt,
         b"one position, a reissue, then the third edge at two positions",
         at([5, 4, 3]),
         at([5, 1, 2]),
-    );
+    )
 }
 
-fn after_two() {
+fn after_two(rt: &impl Print) -> io::Result<()> {
     case(
+        rt,
         b"two reissues, then the third edge's peer",
         keyed([4, 4, 2], [0, 0, 0], [0, 0, 0]),
         keyed([1, 1, 3], [0, 0, 5], [0, 0, 1]),
-    );
+    )?;
     case(
+        rt,
         b"two reissues, then the third edge's shortcut",
         keyed([4, 4, 2], [0, 0, 5], [0, 0, 1]),
         keyed([1, 1, 3], [0, 0, 4], [0, 0, 1]),
-    );
+    )?;
     case(
+        rt,
         b"two reissues, then the third edge at two positions",
         at([4, 4, 3]),
         at([1, 1, 2]),
-    );
+    )
 }
 
 // All fingerprints are equal.
-fn by_positions() {
-    case(b"a reissue first", at([1, 5, 3]), at([4, 5, 3]));
-    case(b"a reissue second", at([5, 1, 3]), at([5, 4, 3]));
-    case(b"a reissue third", at([5, 3, 1]), at([5, 3, 4]));
+fn by_positions(rt: &impl Print) -> io::Result<()> {
+    case(rt, b"a reissue first", at([1, 5, 3]), at([4, 5, 3]))?;
+    case(rt, b"a reissue second", at([5, 1, 3]), at([5, 4, 3]))?;
+    case(rt, b"a reissue third", at([5, 3, 1]), at([5, 3, 4]))?;
     case(
+        rt,
         b"reissues first and second, crossed",
         at([1, 4, 3]),
         at([4, 1, 3]),
-    );
-    case(b"reissues first and third", at([1, 5, 4]), at([4, 5, 1]));
-    case(b"reissues second and third", at([5, 1, 4]), at([5, 4, 1]));
-    case(b"three reissues", at([1, 1, 1]), at([4, 4, 4]));
-    case(b"three reissues, crossed", at([1, 4, 4]), at([4, 1, 1]));
+    )?;
+    case(
+        rt,
+        b"reissues first and third",
+        at([1, 5, 4]),
+        at([4, 5, 1]),
+    )?;
+    case(
+        rt,
+        b"reissues second and third",
+        at([5, 1, 4]),
+        at([5, 4, 1]),
+    )?;
+    case(rt, b"three reissues", at([1, 1, 1]), at([4, 4, 4]))?;
+    case(rt, b"three reissues, crossed", at([1, 4, 4]), at([4, 1, 1]))
 }
 
 // Edges are compared whatever the count says.
-fn past_the_count() {
+fn past_the_count(rt: &impl Print) -> io::Result<()> {
     case(
+        rt,
         b"no edge counted, the first at two positions",
         counted(7, 0, [3, 5, 5]),
         counted(7, 0, [2, 5, 5]),
-    );
+    )?;
     case(
+        rt,
         b"one edge counted, the second at two positions",
         counted(7, 1, [5, 3, 5]),
         counted(7, 1, [5, 2, 5]),
-    );
+    )?;
     case(
+        rt,
         b"two edges counted, the third at two positions",
         counted(7, 2, [5, 5, 3]),
         counted(7, 2, [5, 5, 2]),
-    );
+    )?;
     case(
+        rt,
         b"255 edges counted, three reissues",
         counted(7, 255, [1, 1, 1]),
         counted(7, 255, [4, 4, 4]),
-    );
+    )
 }
 
 // At 200 and 250 the book has no segment: both have the fingerprint of nothing.
-fn past_the_book() {
-    case(b"a segment and none", at([1, 5, 5]), at([200, 5, 5]));
+fn past_the_book(rt: &impl Print) -> io::Result<()> {
+    case(rt, b"a segment and none", at([1, 5, 5]), at([200, 5, 5]))?;
     case(
+        rt,
         b"none and none, then the second edge at two positions",
         at([250, 3, 5]),
         at([200, 2, 5]),
-    );
+    )?;
     case(
+        rt,
         b"none and none at every edge",
         at([200, 200, 200]),
         at([250, 250, 250]),
-    );
+    )
 }
 
-fn by_hand() {
-    heads();
-    first_edge();
-    second_edge();
-    third_edge();
-    no_keys();
-    after_one();
-    after_one_and_another();
-    after_the_second();
-    after_two();
-    by_positions();
-    past_the_count();
-    past_the_book();
+fn by_hand(rt: &impl Print) -> io::Result<()> {
+    heads(rt)?;
+    first_edge(rt)?;
+    second_edge(rt)?;
+    third_edge(rt)?;
+    no_keys(rt)?;
+    after_one(rt)?;
+    after_one_and_another(rt)?;
+    after_the_second(rt)?;
+    after_two(rt)?;
+    by_positions(rt)?;
+    past_the_count(rt)?;
+    past_the_book(rt)
 }
 
 // ---- cut short
@@ -311,19 +360,21 @@ fn first(s: &[u8], n: usize) -> &[u8] {
 
 // Of the book and of each record the first so many bytes.
 fn cut(
+    rt: &impl Print,
     name: &[u8],
     size: usize,
     a: [u8; Solution::SIZE],
     a_size: usize,
     b: [u8; Solution::SIZE],
     b_size: usize,
-) {
+) -> io::Result<()> {
     any(
+        rt,
         name,
         first(&book(), size),
         first(&a, a_size),
         first(&b, b_size),
-    );
+    )
 }
 
 // A book's sizes and heads; and all up to within the egress of the last entry.
@@ -331,60 +382,88 @@ const HEADS: usize = BOOK - 6 * AsEntry::SIZE;
 
 const IN_EGRESS: usize = BOOK - AsEntry::SIZE + AsEntry::EGRESS + 1;
 
-fn short_books() {
+fn short_books(rt: &impl Print) -> io::Result<()> {
     cut(
+        rt,
         b"no book, three edges at two positions",
         0,
         at([0, 1, 2]),
         Solution::SIZE,
         at([3, 4, 5]),
         Solution::SIZE,
-    );
+    )?;
     cut(
+        rt,
         b"no bodies, the first edge at two positions",
         HEADS,
         at([3, 5, 5]),
         Solution::SIZE,
         at([2, 5, 5]),
         Solution::SIZE,
-    );
+    )?;
     cut(
+        rt,
         b"the last egress cut, the first edge at two positions",
         IN_EGRESS,
         at([5, 3, 3]),
         Solution::SIZE,
         at([2, 3, 3]),
         Solution::SIZE,
-    );
+    )
 }
 
-fn short_records() {
+fn short_records(rt: &impl Print) -> io::Result<()> {
     let x = at([3, 3, 3]);
     let y = at([2, 2, 2]);
     let zeros = counted(0, 0, [0, 0, 0]);
-    cut(b"no record and none", BOOK, x, 0, y, 0);
-    cut(b"no record and zeros", BOOK, x, 0, zeros, Solution::SIZE);
-    cut(b"no record and one", BOOK, y, 0, x, Solution::SIZE);
-    cut(b"no edges", BOOK, x, Solution::HEAD, y, Solution::HEAD);
+    cut(rt, b"no record and none", BOOK, x, 0, y, 0)?;
     cut(
+        rt,
+        b"no record and zeros",
+        BOOK,
+        x,
+        0,
+        zeros,
+        Solution::SIZE,
+    )?;
+    cut(rt, b"no record and one", BOOK, y, 0, x, Solution::SIZE)?;
+    cut(rt, b"no edges", BOOK, x, Solution::HEAD, y, Solution::HEAD)?;
+    cut(
+        rt,
         b"no edges but the first position",
         BOOK,
         x,
         Solution::HEAD + 1,
         y,
         Solution::HEAD + 1,
-    );
-    cut(b"one edge and three", BOOK, x, SECOND, x, Solution::SIZE);
-    cut(b"two edges and three", BOOK, x, THIRD, x, Solution::SIZE);
+    )?;
+    cut(
+        rt,
+        b"one edge and three",
+        BOOK,
+        x,
+        SECOND,
+        x,
+        Solution::SIZE,
+    )?;
+    cut(
+        rt,
+        b"two edges and three",
+        BOOK,
+        x,
+        THIRD,
+        x,
+        Solution::SIZE,
+    )
 }
 
-fn long_records() {
+fn long_records(rt: &impl Print) -> io::Result<()> {
     let b = book();
     let mut x = [0u8; Solution::SIZE + 4];
     let mut y = [0u8; Solution::SIZE + 4];
     x[Solution::SIZE] = 1;
     y[Solution::SIZE] = 2;
-    any(b"bytes after the record", &b, &x, &y);
+    any(rt, b"bytes after the record", &b, &x, &y)
 }
 
 // ---- every pair of sixty
@@ -439,35 +518,34 @@ fn tally(r: &[u8], which: u8, n: u8) -> u64 {
     found
 }
 
-fn say_tally(name: &[u8], n: u64) {
-    io::write_all(libc::STDOUT_FILENO, name);
-    io::print_decimal(libc::STDOUT_FILENO, n);
-    io::write_all(libc::STDOUT_FILENO, b"\n");
+fn say_tally(rt: &impl Print, name: &[u8], n: u64) -> io::Result<()> {
+    rt.write_all(name)?;
+    println!(rt; "{n}")
 }
 
-fn say_answers(r: &[u8]) {
-    say_tally(b"before: ", tally(r, 0, 0));
-    say_tally(b"same: ", tally(r, 0, 1));
-    say_tally(b"after: ", tally(r, 0, 2));
-    say_tally(b"no fingerprint: ", tally(r, 1, 0));
-    say_tally(b"two fingerprints: ", tally(r, 1, 2));
-    say_tally(b"four fingerprints: ", tally(r, 1, 4));
-    say_tally(b"six fingerprints: ", tally(r, 1, 6));
-    show_digest(r);
+fn say_answers(rt: &impl Print, r: &[u8]) -> io::Result<()> {
+    say_tally(rt, b"before: ", tally(r, 0, 0))?;
+    say_tally(rt, b"same: ", tally(r, 0, 1))?;
+    say_tally(rt, b"after: ", tally(r, 0, 2))?;
+    say_tally(rt, b"no fingerprint: ", tally(r, 1, 0))?;
+    say_tally(rt, b"two fingerprints: ", tally(r, 1, 2))?;
+    say_tally(rt, b"four fingerprints: ", tally(r, 1, 4))?;
+    say_tally(rt, b"six fingerprints: ", tally(r, 1, 6))?;
+    show_digest(rt, r)
 }
 
-fn every_pair() {
+fn every_pair(rt: &impl Print) -> io::Result<()> {
     let mut s = [0u8; RECORDS * Solution::SIZE];
     fill(&mut s, Kind::Tied);
     let mut r = [0u8; 2 * PAIRS];
     put_answers(&book(), &s, &mut r);
-    say_answers(&r);
+    say_answers(rt, &r)
 }
 
-pub(crate) fn show() {
-    by_hand();
-    short_books();
-    short_records();
-    long_records();
-    every_pair();
+pub(crate) fn show(rt: &impl Print) -> io::Result<()> {
+    by_hand(rt)?;
+    short_books(rt)?;
+    short_records(rt)?;
+    long_records(rt)?;
+    every_pair(rt)
 }

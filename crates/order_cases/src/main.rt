@@ -8,6 +8,7 @@
 mod compared;
 
 use spec::{AsEntry, Head, HopField, IsdAsn, Limits, Sizes, Solution, SolutionEdge};
+use std::io;
 
 // ---- the book
 
@@ -89,21 +90,23 @@ fn two(s: &mut [u8], at: usize, cost: u16, e: SolutionEdge, f: SolutionEdge) -> 
 // ---- sorted
 
 // A line for each record.
-fn show(s: &[u8]) {
+fn show(rt: &impl Print, s: &[u8]) -> io::Result<()> {
     let mut q = 0;
     while q < s.len() / Solution::SIZE {
         let at = Solution::SIZE * q;
-        io::print_hex(libc::STDOUT_FILENO, octets::be64(s, at), 16);
-        io::print_hex(libc::STDOUT_FILENO, octets::be64(s, at + 8), 16);
-        io::write_all(libc::STDOUT_FILENO, b"\n");
+        println!(rt;
+            "{:016x}{:016x}",
+            octets::be64(s, at),
+            octets::be64(s, at + 8)
+        )?;
         q += 1;
     }
-    io::write_all(libc::STDOUT_FILENO, b"\n");
+    rt.write_all(b"\n")
 }
 
 // Cost, also where its second byte is the smaller; count; peers of both edges, the smaller first;
 // shortcuts, the larger first.
-fn by_keys() {
+fn by_keys(rt: &impl Print) -> io::Result<()> {
     let mut s = [0u8; 10 * Solution::SIZE];
     let mut at = one(&mut s, 0, 300, down(0, 2, 0));
     at = two(&mut s, at, 5, up(0, 0, 0), down(1, 0, 0));
@@ -116,7 +119,7 @@ fn by_keys() {
     at = two(&mut s, at, 5, up(0, 0, 0), down(1, 7, 2));
     two(&mut s, at, 5, up(0, 0, 1), down(1, 0, 0));
     order::sort(&book(), &mut s, 10);
-    show(&s);
+    show(rt, &s)
 }
 
 // Positions of two edges, and the peer of the second.
@@ -125,7 +128,7 @@ fn pair(s: &mut [u8], at: usize, first: u8, second: u8, peer: u8) -> usize {
 }
 
 // Positions alone differ, or a peer after them: the fingerprints decide.
-fn by_fingerprints() {
+fn by_fingerprints(rt: &impl Print) -> io::Result<()> {
     let mut s = [0u8; 12 * Solution::SIZE];
     let mut at = pair(&mut s, 0, 5, 2, 0);
     at = pair(&mut s, at, 4, 2, 0);
@@ -140,7 +143,7 @@ fn by_fingerprints() {
     at = pair(&mut s, at, 3, 2, 1);
     pair(&mut s, at, 2, 2, 1);
     order::sort(&book(), &mut s, 12);
-    show(&s);
+    show(rt, &s)
 }
 
 // Positions of three edges, and the shortcut of the third.
@@ -151,7 +154,7 @@ fn triple(s: &mut [u8], at: usize, a: u8, b: u8, c: u8, shortcut: u8) -> usize {
 
 // Positions of one fingerprint in each edge: these decide last, after the third edge's shortcut. At 200
 // and 250 the book has no segment, and both have the fingerprint of nothing.
-fn by_positions() {
+fn by_positions(rt: &impl Print) -> io::Result<()> {
     let mut s = [0u8; 7 * Solution::SIZE];
     let mut at = triple(&mut s, 0, 4, 1, 1, 2);
     at = triple(&mut s, at, 1, 4, 4, 2);
@@ -161,21 +164,21 @@ fn by_positions() {
     at = triple(&mut s, at, 250, 1, 1, 2);
     triple(&mut s, at, 200, 1, 1, 2);
     order::sort(&book(), &mut s, 7);
-    show(&s);
+    show(rt, &s)
 }
 
 // Three records and five bytes.
 const PART: usize = 3 * Solution::SIZE + 5;
 
 // The first n records: more than the buffer has, none, one, and two.
-fn in_part(n: usize) {
+fn in_part(rt: &impl Print, n: usize) -> io::Result<()> {
     let mut s = [0u8; PART];
     let mut at = one(&mut s, 0, 9, down(0, 0, 0));
     at = one(&mut s, at, 8, down(0, 0, 0));
     one(&mut s, at, 7, down(0, 0, 0));
     s[PART - 1] = 9;
     order::sort(&book(), &mut s, n);
-    show(&s);
+    show(rt, &s)
 }
 
 // Numbers with no order in them, for the bytes of records.
@@ -265,58 +268,59 @@ fn fill(s: &mut [u8], kind: Kind) {
     }
 }
 
-fn show_digest(s: &[u8]) {
+fn show_digest(rt: &impl Print, s: &[u8]) -> io::Result<()> {
     let d = sha256::sha256(s);
-    io::print_hex(libc::STDOUT_FILENO, octets::be64(&d, 0), 16);
-    io::print_hex(libc::STDOUT_FILENO, octets::be64(&d, 8), 16);
-    io::print_hex(libc::STDOUT_FILENO, octets::be64(&d, 16), 16);
-    io::print_hex(libc::STDOUT_FILENO, octets::be64(&d, 24), 16);
-    io::write_all(libc::STDOUT_FILENO, b"\n");
+    print!(rt; "{:016x}{:016x}", octets::be64(&d, 0), octets::be64(&d, 8))?;
+    println!(rt;
+        "{:016x}{:016x}",
+        octets::be64(&d, 16),
+        octets::be64(&d, 24)
+    )
 }
 
 // 300 records.
-fn long() {
+fn long(rt: &impl Print) -> io::Result<()> {
     let mut s = [0u8; 300 * Solution::SIZE];
     fill(&mut s, Kind::Mixed);
     order::sort(&book(), &mut s, 300);
-    show_digest(&s);
+    show_digest(rt, &s)
 }
 
 // 4,100 records, of which 4,096 are sorted.
-fn longest() {
+fn longest(rt: &impl Print) -> io::Result<()> {
     let mut s = [0u8; (Limits::SLOTS + 4) * Solution::SIZE];
     fill(&mut s, Kind::Mixed);
     order::sort(&book(), &mut s, 5000);
-    show_digest(&s);
+    show_digest(rt, &s)
 }
 
 // 700 records, which are sorted as keys; and with one among them of which no key can be made.
-fn long_plain() {
+fn long_plain(rt: &impl Print) -> io::Result<()> {
     let mut s = [0u8; 700 * Solution::SIZE];
     fill(&mut s, Kind::Plain);
     order::sort(&book(), &mut s, 700);
-    show_digest(&s);
+    show_digest(rt, &s)
 }
 
-fn long_but_one() {
+fn long_but_one(rt: &impl Print) -> io::Result<()> {
     let mut s = [0u8; 700 * Solution::SIZE];
     fill(&mut s, Kind::Plain);
     s[Solution::HEAD + SolutionEdge::DIRECTION] = 2;
     order::sort(&book(), &mut s, 700);
-    show_digest(&s);
+    show_digest(rt, &s)
 }
 
-fn main() {
-    by_keys();
-    by_fingerprints();
-    by_positions();
-    in_part(100);
-    in_part(0);
-    in_part(1);
-    in_part(2);
-    long();
-    longest();
-    long_plain();
-    long_but_one();
-    compared::show();
+fn main(rt: HostRuntime) -> io::Result<()> {
+    by_keys(&rt)?;
+    by_fingerprints(&rt)?;
+    by_positions(&rt)?;
+    in_part(&rt, 100)?;
+    in_part(&rt, 0)?;
+    in_part(&rt, 1)?;
+    in_part(&rt, 2)?;
+    long(&rt)?;
+    longest(&rt)?;
+    long_plain(&rt)?;
+    long_but_one(&rt)?;
+    compared::show(&rt)
 }

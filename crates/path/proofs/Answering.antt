@@ -47,16 +47,16 @@ use Rattle.path.specs.Edges.{edge_by, InBook, edge_in, edges_in, EdgesInBook, Re
 
 -- what is left where a chain is not refused, and where it has no edges
 abbrev pub NotRefused : Chain → Type 0
-NotRefused chain = OneOf (1 ∷ 2 ∷ []) (tag_of the_type chain)
+NotRefused chain = (r : Refusal) → chain ≡ Refused r → ⊥
 
 abbrev pub NotEdges : Chain → Type 0
-NotEdges chain = OneOf (0 ∷ 1 ∷ []) (tag_of the_type chain)
+NotEdges chain = (n : ℕ) → chain ≡ Edges n → ⊥
 
 refused-not : (x : Refusal) → NotRefused (Refused x) → ⊥
-refused-not x h = ⊎_elim (λ q. omega arith) (λ q. omega arith) h
+refused-not x h = h x refl
 
 edges-not : (n : ℕ) → NotEdges (Edges n) → ⊥
-edges-not n h = ⊎_elim (λ q. omega arith) (λ q. omega arith) h
+edges-not n h = h n refl
 
 -- ---- assembly knows an edge by what a record has of it
 

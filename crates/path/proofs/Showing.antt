@@ -177,7 +177,7 @@ least-one x y = refl
 
 pub units-one : (seg : Segment) (e : Edge) (m x y r : ℕ) → r ≡ min x y → y ≡ (hop_of seg e m).units → r ≡ least x (units_of (hop_of seg e m) ∷ [])
 unfolding least units_of
-units-one seg e m x y r q p = q ∙ ap (min x) p
+units-one s e m x y r q p = q ∙ ap (min x) p
 
 -- the order of numbers does not matter to the least of them
 pub least-min : (x y : ℕ) (xs : List ℕ) → least (min x y) xs ≡ min (least x xs) y

@@ -5,6 +5,8 @@
 
 use order::Order;
 use spec::{Limits, Path, Solution};
+use std::io;
+use std::io::Read;
 
 // An item's first byte, its tag.
 const LABEL: u32 = 0;
@@ -42,18 +44,17 @@ const REFUSED: u32 = 65536;
 // ---- reading
 
 // Reads n bytes to the start of buf; false where buf or the input is shorter.
-fn take(buf: &mut [u8], n: usize) -> bool {
+fn take(rt: &impl Input, buf: &mut [u8], n: usize) -> bool {
     if buf.len() < n {
         return false;
     }
-    let got = io::read_full(libc::STDIN_FILENO, &mut buf[0..n]);
-    got == n
+    rt.reader().read_exact(&mut buf[0..n]).is_ok()
 }
 
 // The next number, of 1, 2 or 4 bytes, or NONE.
-fn number(size: usize) -> u32 {
+fn number(rt: &impl Input, size: usize) -> u32 {
     let mut h = [0u8; 4];
-    if !take(&mut h, size) {
+    if !take(rt, &mut h, size) {
         return NONE;
     }
     if size == 1 {
@@ -66,8 +67,8 @@ fn number(size: usize) -> u32 {
 }
 
 // The next number as a length: NONE is longer than any buffer.
-fn length(size: usize) -> usize {
-    number(size) as usize
+fn length(rt: &impl Input, size: usize) -> usize {
+    number(rt, size) as usize
 }
 
 // The first n bytes, or all.
@@ -158,11 +159,11 @@ fn read(wire: &[u8], out: &mut [u8]) -> u32 {
 // ---- answers
 
 // Reads what assembly of one record must answer.
-fn path(input: &[u8], record: &[u8]) -> usize {
-    let wanted = number(1);
-    let n = length(2);
+fn path(rt: &impl Input, input: &[u8], record: &[u8]) -> usize {
+    let wanted = number(rt, 1);
+    let n = length(rt, 2);
     let mut bytes = [0u8; Path::SIZE];
-    if !take(&mut bytes, n) {
+    if !take(rt, &mut bytes, n) {
         return BROKEN;
     }
     let mut out = [0u8; Path::SIZE];
@@ -170,7 +171,7 @@ fn path(input: &[u8], record: &[u8]) -> usize {
     compared(answer, wanted, &out, first(&bytes, n))
 }
 
-fn paths(input: &[u8], records: &[u8]) -> usize {
+fn paths(rt: &impl Input, input: &[u8], records: &[u8]) -> usize {
     let mut worst = SAME;
     let mut at: usize = 0;
     while at < records.len() {
@@ -178,26 +179,32 @@ fn paths(input: &[u8], records: &[u8]) -> usize {
             return BROKEN;
         }
         let end = at + Solution::SIZE;
-        worst = larger(worst, path(input, &records[at..end]));
+        worst = larger(worst, path(rt, input, &records[at..end]));
         at = end;
     }
     worst
 }
 
-fn list_and_paths(input: &[u8], count: u32, records: &[u8], slots: &mut [u8]) -> usize {
+fn list_and_paths(
+    rt: &impl Input,
+    input: &[u8],
+    count: u32,
+    records: &[u8],
+    slots: &mut [u8],
+) -> usize {
     let answer = list(input, slots);
     let listed = compared(answer, count, slots, records);
-    larger(listed, paths(input, records))
+    larger(listed, paths(rt, input, records))
 }
 
 // A case of answers.bin, after its input.
-fn answers(input: &[u8], records: &mut [u8], slots: &mut [u8]) -> usize {
-    let count = number(2);
+fn answers(rt: &impl Input, input: &[u8], records: &mut [u8], slots: &mut [u8]) -> usize {
+    let count = number(rt, 2);
     let n = Solution::SIZE * count as usize;
-    if !take(records, n) {
+    if !take(rt, records, n) {
         return BROKEN;
     }
-    list_and_paths(input, count, first(records, n), slots)
+    list_and_paths(rt, input, count, first(records, n), slots)
 }
 
 // ---- refusals
@@ -249,15 +256,15 @@ fn refused(
 }
 
 // A case of refusals.bin, after its input.
-fn refusals(input: &[u8], out: &mut [u8], slots: &mut [u8]) -> usize {
-    let call = number(1);
-    let room = length(4);
-    let n = length(2);
+fn refusals(rt: &impl Input, input: &[u8], out: &mut [u8], slots: &mut [u8]) -> usize {
+    let call = number(rt, 1);
+    let room = length(rt, 4);
+    let n = length(rt, 2);
     let mut record = [0u8; 32];
-    if !take(&mut record, n) {
+    if !take(rt, &mut record, n) {
         return BROKEN;
     }
-    let refusal = number(1);
+    let refusal = number(rt, 1);
     if 1 < call {
         return BROKEN;
     }
@@ -293,12 +300,12 @@ fn routes_of(input: &[u8], wanted: u32, records: &[u8], out: &mut [u8]) -> usize
 }
 
 // A case of routes.bin, after its input.
-fn routed(input: &[u8], out: &mut [u8], records: &mut [u8]) -> usize {
-    let room = length(4);
-    let refusal = number(1);
-    let count = number(2);
+fn routed(rt: &impl Input, input: &[u8], out: &mut [u8], records: &mut [u8]) -> usize {
+    let room = length(rt, 4);
+    let refusal = number(rt, 1);
+    let count = number(rt, 2);
     let n = Solution::SIZE * count as usize;
-    if !take(records, n) {
+    if !take(rt, records, n) {
         return BROKEN;
     }
     if out.len() < room {
@@ -327,13 +334,13 @@ fn carried_to(call: u32, given: &[u8], wanted: u32, bytes: &[u8], out: &mut [u8]
 }
 
 // A case of wire.bin, after the path or the wire that is given.
-fn carried(given: &[u8], out: &mut [u8], bytes: &mut [u8]) -> usize {
-    let call = number(1);
-    let room = length(4);
-    let refusal = number(1);
-    let count = number(2);
+fn carried(rt: &impl Input, given: &[u8], out: &mut [u8], bytes: &mut [u8]) -> usize {
+    let call = number(rt, 1);
+    let room = length(rt, 4);
+    let refusal = number(rt, 1);
+    let count = number(rt, 2);
     let n = count as usize;
-    if !take(bytes, n) {
+    if !take(rt, bytes, n) {
         return BROKEN;
     }
     if 1 < call {
@@ -381,19 +388,19 @@ fn compare(book: &[u8], a: &[u8], b: &[u8], place: u32, digests: u32) -> usize {
 }
 
 // Reads two records, how the first stands to the second, and how many fingerprints that takes.
-fn pair(book: &[u8]) -> usize {
-    let n = length(1);
+fn pair(rt: &impl Input, book: &[u8]) -> usize {
+    let n = length(rt, 1);
     let mut a = [0u8; 32];
-    if !take(&mut a, n) {
+    if !take(rt, &mut a, n) {
         return BROKEN;
     }
-    let m = length(1);
+    let m = length(rt, 1);
     let mut b = [0u8; 32];
-    if !take(&mut b, m) {
+    if !take(rt, &mut b, m) {
         return BROKEN;
     }
-    let place = number(1);
-    let digests = number(1);
+    let place = number(rt, 1);
+    let digests = number(rt, 1);
     if AFTER < place {
         return BROKEN;
     }
@@ -404,66 +411,62 @@ fn pair(book: &[u8]) -> usize {
 }
 
 // A case of comparisons.bin, after its book.
-fn pairs(book: &[u8]) -> usize {
-    let count = number(2);
+fn pairs(rt: &impl Input, book: &[u8]) -> usize {
+    let count = number(rt, 2);
     if count == NONE {
         return BROKEN;
     }
     let mut worst = SAME;
     for k in 0..count {
-        worst = larger(worst, pair(book));
+        worst = larger(worst, pair(rt, book));
     }
     worst
 }
 
 // ---- labels and their cases
 
-fn case(kind: u32, input: &mut [u8], out: &mut [u8], slots: &mut [u8]) -> usize {
-    let n = length(4);
-    if !take(input, n) {
+fn case(rt: &impl Input, kind: u32, input: &mut [u8], out: &mut [u8], slots: &mut [u8]) -> usize {
+    let n = length(rt, 4);
+    if !take(rt, input, n) {
         return BROKEN;
     }
     if kind == WIRE {
-        return carried(first(input, n), out, slots);
+        return carried(rt, first(input, n), out, slots);
     }
     if kind == COMPARISONS {
-        return pairs(first(input, n));
+        return pairs(rt, first(input, n));
     }
     if n < ENDS {
         return BROKEN;
     }
     if kind == ANSWERS {
-        return answers(first(input, n), out, slots);
+        return answers(rt, first(input, n), out, slots);
     }
     if kind == ROUTES {
-        return routed(first(input, n), out, slots);
+        return routed(rt, first(input, n), out, slots);
     }
-    refusals(first(input, n), out, slots)
+    refusals(rt, first(input, n), out, slots)
 }
 
-fn say_case(label: &[u8], k: u64, what: &[u8]) {
-    io::write_all(libc::STDOUT_FILENO, label);
-    io::write_all(libc::STDOUT_FILENO, b": case ");
-    io::print_decimal(libc::STDOUT_FILENO, k);
-    io::write_all(libc::STDOUT_FILENO, what);
+fn say_case(rt: &impl Print, label: &[u8], k: u64, what: &[u8]) -> io::Result<()> {
+    rt.write_all(label)?;
+    print!(rt; ": case {k}")?;
+    rt.write_all(what)
 }
 
-fn say_found(label: &[u8], k: u64, found: usize) {
+fn say_found(rt: &impl Print, label: &[u8], k: u64, found: usize) -> io::Result<()> {
     if found == DIFFERS {
-        say_case(label, k, b" differs\n");
+        say_case(rt, label, k, b" differs\n")?;
     }
     if found == BROKEN {
-        say_case(label, k, b" is malformed\n");
+        say_case(rt, label, k, b" is malformed\n")?;
     }
+    Ok(())
 }
 
-fn say_label(label: &[u8], cases: u64, differ: u64) {
-    io::write_all(libc::STDOUT_FILENO, label);
-    io::write_all(libc::STDOUT_FILENO, b": ");
-    io::print_decimal(libc::STDOUT_FILENO, cases);
-    io::write_all(libc::STDOUT_FILENO, b" cases, ");
-    io::print_decimal(libc::STDOUT_FILENO, differ);
-    io::write_all(libc::STDOUT_FILENO, b" differ\n");
+fn say_label(rt: &impl Print, label: &[u8], cases: u64, differ: u64) -> io::Result<()> {
+    rt.write_all(label)?;
+    println!(rt; ": {cases} cases, {differ} differ")
 }
 
 fn is_case(tag: u32) -> bool {
@@ -483,61 +486,78 @@ fn is_case(tag: u32) -> bool {
 }
 
 // The cases of one label, and the tag that follows them.
-fn cases(label: &[u8], input: &mut [u8], out: &mut [u8], slots: &mut [u8]) -> u32 {
+fn cases(
+    rt: &(impl Input + Print),
+    label: &[u8],
+    input: &mut [u8],
+    out: &mut [u8],
+    slots: &mut [u8],
+) -> io::Result<u32> {
     let mut done: u64 = 0;
     let mut differ: u64 = 0;
-    let mut tag = number(1);
+    let mut tag = number(rt, 1);
     while done < MOST {
         if !is_case(tag) {
             break;
         }
         done += 1;
-        let found = case(tag, input, out, slots);
-        say_found(label, done, found);
+        let found = case(rt, tag, input, out, slots);
+        say_found(rt, label, done, found)?;
         if DIFFERS < found {
-            return MALFORMED;
+            return Ok(MALFORMED);
         }
         differ += found as u64;
-        tag = number(1);
+        tag = number(rt, 1);
     }
-    say_label(label, done, differ);
-    tag
+    say_label(rt, label, done, differ)?;
+    Ok(tag)
 }
 
 // One label with its cases, and the tag that follows them.
-fn label(input: &mut [u8], out: &mut [u8], slots: &mut [u8]) -> u32 {
-    let n = length(1);
+fn label(
+    rt: &(impl Input + Print),
+    input: &mut [u8],
+    out: &mut [u8],
+    slots: &mut [u8],
+) -> io::Result<u32> {
+    let n = length(rt, 1);
     let mut text = [0u8; 255];
-    if !take(&mut text, n) {
-        return MALFORMED;
+    if !take(rt, &mut text, n) {
+        return Ok(MALFORMED);
     }
-    cases(first(&text, n), input, out, slots)
+    cases(rt, first(&text, n), input, out, slots)
 }
 
 // True where the input is labels and cases from its start to its end.
-fn labels(input: &mut [u8], out: &mut [u8], slots: &mut [u8]) -> bool {
-    let mut tag = number(1);
+fn labels(
+    rt: &(impl Input + Print),
+    input: &mut [u8],
+    out: &mut [u8],
+    slots: &mut [u8],
+) -> io::Result<bool> {
+    let mut tag = number(rt, 1);
     if tag != LABEL {
-        return false;
+        return Ok(false);
     }
     let mut k: u64 = 0;
     while k < MOST {
         if tag != LABEL {
             break;
         }
-        tag = label(input, out, slots);
+        tag = label(rt, input, out, slots)?;
         k += 1;
     }
-    tag == NONE
+    Ok(tag == NONE)
 }
 
-fn main() {
+fn main(rt: HostRuntime) -> io::Result<()> {
     let mut input = [0u8; ENDS + Limits::BOOK + 1];
     // The longest output of a refusal, or the records of a list.
     let mut out = [0u8; 131072];
     // The usual output of listing, every slot.
     let mut slots = [0u8; Limits::SLOTS * Solution::SIZE];
-    if !labels(&mut input, &mut out, &mut slots) {
-        io::write_all(libc::STDOUT_FILENO, b"the input is malformed\n");
+    if !labels(&rt, &mut input, &mut out, &mut slots)? {
+        rt.write_all(b"the input is malformed\n")?;
     }
+    Ok(())
 }

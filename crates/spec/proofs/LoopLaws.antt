@@ -1,7 +1,6 @@
 -- In an accepted book no segment passes one AS twice.
 -- Assumes nothing.
-use Prim.Native.Nat.{ℕ, ◌+◌, ◌≤◌, ◌<◌}
-use native.Mathlib.Decide.{ℕ_discrete}
+use Prim.Native.Nat.{ℕ, ◌<◌}
 use native.Mathlib.Omega.{arith}
 use mathlib.Core.Path.{◌≡◌, refl, sym, ap, ◌∙◌}
 use mathlib.Core.Bool.{Bool, true, false}
@@ -9,10 +8,9 @@ use mathlib.Core.List.{List}
 use lib.ListN.{length}
 use lib.Dec.{ltb}
 use borrow.Author.Tests.{ltb-true, ltb-false}
-use Rattle.spec.specs.declared.IsdAsn.{IsdAsn}
-use Rattle.spec.specs.Basics.{any, range}
-use Rattle.spec.specs.Book.{Entry, segment_count, entry_count_at, body_offset, same_as, entry_offset, isd_asn_at, local_at, has_local_of, stands_earlier, passes_twice, as_entry_at, entry_at, segment_at}
-use Rattle.spec.specs.Edges.{as_of, entry_of}
+use Rattle.spec.specs.Basics.{range}
+use Rattle.spec.specs.Book.{Entry, segment_count, entry_count_at, same_as, local_at, has_local_of, stands_earlier, passes_twice, as_entry_at, entry_at, segment_at}
+use Rattle.spec.specs.Edges.{as_of}
 use Rattle.spec.specs.Loopless.{Apart}
 use Rattle.spec.proofs.Membership.{not-both}
 use Rattle.spec.proofs.Vertices.{same_as-refl}

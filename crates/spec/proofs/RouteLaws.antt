@@ -2,8 +2,8 @@
 -- Assumes nothing.
 use Prim.Native.Nat.{ℕ, suc, ◌-◌, ◌*◌, ◌≤◌}
 use native.Mathlib.Omega.{arith}
-use mathlib.Core.Path.{◌≡◌, refl, sym, ap, ◌∙◌, subst}
-use mathlib.Core.Logic.{◌⊎◌, inl, inr, ⊎_elim}
+use mathlib.Core.Path.{◌≡◌, refl, sym, ap, ◌∙◌}
+use mathlib.Core.Logic.{⊎_elim}
 use mathlib.Core.Bool.{Bool, true, false, false≢true}
 use mathlib.Core.List.Memᴰ.{head}
 use mathlib.Core.List.Memᴰ.{not-nil}
@@ -21,22 +21,22 @@ use Rattle.spec.specs.declared.Verdict.TheVariants.{Accepted, Refused as Refused
 use Rattle.spec.specs.declared.ListAnswer.TheVariants.{Count, Refused as RefusedList}
 use Rattle.spec.specs.declared.PathAnswer.{PathAnswer}
 use Rattle.spec.specs.declared.PathAnswer.TheVariants.{Path, Loop, Bare, Refused as RefusedPath}
-use Rattle.spec.specs.Limits.{solution_size, path_size}
-use Rattle.spec.specs.Basics.{if◌then◌else◌, filter, padded, Once}
+use Rattle.spec.specs.Limits.{solution_size}
+use Rattle.spec.specs.Basics.{if◌then◌else◌, filter, padded}
 use Rattle.spec.specs.Book.{verdict}
 use Rattle.spec.specs.Order.{solutions}
 use Rattle.spec.specs.Assembly.{combined_path, outcome}
-use Rattle.spec.specs.Records.{solution_octets, path_octets, slots}
-use Rattle.spec.specs.Answers.{Listed, refused_list, listing_of, listing_on, listing, assembly}
+use Rattle.spec.specs.Records.{solution_octets, slots}
+use Rattle.spec.specs.Answers.{Listed, refused_list, listing_of, listing_on, listing}
 use Rattle.spec.specs.Printed.{is_path, has_path}
-use Rattle.spec.proofs.Membership.{map-mem, filter-mem, mem-filter, not-both}
+use Rattle.spec.proofs.Membership.{map-mem, filter-mem, mem-filter}
 use Rattle.spec.proofs.ChainLaws.{allowed-length}
 use Rattle.spec.proofs.OnceLaws.{solutions-sound}
 use Rattle.spec.proofs.Bounds.{flat-exact}
 use Rattle.spec.proofs.LengthLaws.{padded-length, solution-length, slots-fit}
 use Rattle.spec.proofs.AnswerLaws.{assembly-chain, answer-by}
 use Rattle.spec.specs.Routes.{hold_all, route_of, lasts_to, with_path, routes, routing_of, routing_on, routing}
-use Rattle.spec.specs.RouteDemand.{appearances, Best, Routes}
+use Rattle.spec.specs.RouteDemand.{appearances, Routes}
 use Rattle.spec.proofs.HoldingLaws.{all-keys, all-mem, all-few, Good, good, best-most}
 
 -- ---- answers

@@ -1,7 +1,7 @@
 -- A fifth table of computed cases: paths on the wire (docs/SPECIFICATION.md 15). Two are laid out by hand from the data draft, and each of their fields is
 -- changed by one byte; the others are as long as their counts ask for, so that nothing but the one fault refuses them.
 -- Assumes nothing.
-use Prim.Native.Nat.{ℕ, ◌+◌}
+use Prim.Native.Nat.{ℕ}
 use mathlib.Core.List.{List, [], ◌∷◌, ◌++◌, map, flat_map}
 use lib.ListN.{length, replicate, set, take}
 use lib.Dec.{T}

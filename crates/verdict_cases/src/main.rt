@@ -4,6 +4,7 @@
 #![tactic(auto)]
 
 use spec::{AsEntry, Head, HopField, IsdAsn, Limits, PeerEntry, Sizes, Verdict};
+use std::io;
 
 // Room for every book: a byte more than the limit.
 const ROOM: usize = Limits::BOOK + 1;
@@ -25,18 +26,18 @@ fn number(v: Verdict) -> u64 {
     }
 }
 
-fn say(label: &[u8]) {
-    io::write_all(libc::STDOUT_FILENO, label);
-    io::write_all(libc::STDOUT_FILENO, b": ");
+fn say(rt: &impl Print, label: &[u8]) -> io::Result<()> {
+    rt.write_all(label)?;
+    rt.write_all(b": ")
 }
 
 // The answer about the first `length` bytes.
-fn answer(book: &[u8], length: usize) {
+fn answer(rt: &impl Print, book: &[u8], length: usize) -> io::Result<()> {
     if length <= book.len() {
         let n = number(book::verdict(&book[0..length]));
-        io::print_decimal(libc::STDOUT_FILENO, n);
+        print!(rt; "{n}")?;
     }
-    io::write_all(libc::STDOUT_FILENO, b"\n");
+    rt.write_all(b"\n")
 }
 
 // ---- sizes alone
@@ -54,33 +55,40 @@ fn sizes(cores: u16, others: u16, bodies: u32) -> Sizes {
     }
 }
 
-fn sized(label: &[u8], cores: u16, others: u16, bodies: u32, length: usize) {
+fn sized(
+    rt: &impl Print,
+    label: &[u8],
+    cores: u16,
+    others: u16,
+    bodies: u32,
+    length: usize,
+) -> io::Result<()> {
     let mut book = [0u8; ROOM];
     builder::put_sizes(&mut book, 0, sizes(cores, others, bodies));
-    say(label);
-    answer(&book, length);
+    say(rt, label)?;
+    answer(rt, &book, length)
 }
 
-fn lengths() {
-    sized(b"no bytes", 0, 0, 0, 0);
-    sized(b"7 bytes", 0, 0, 0, Sizes::SIZE - 1);
-    sized(b"8 bytes", 0, 0, 0, Sizes::SIZE);
-    sized(b"8 bytes and 1", 0, 0, 0, Sizes::SIZE + 1);
+fn lengths(rt: &impl Print) -> io::Result<()> {
+    sized(rt, b"no bytes", 0, 0, 0, 0)?;
+    sized(rt, b"7 bytes", 0, 0, 0, Sizes::SIZE - 1)?;
+    sized(rt, b"8 bytes", 0, 0, 0, Sizes::SIZE)?;
+    sized(rt, b"8 bytes and 1", 0, 0, 0, Sizes::SIZE + 1)
 }
 
 // Segments with empty bodies.
-fn segments() {
-    sized(b"C 64, N 0", SEGMENTS, 0, 0, MOST);
-    sized(b"C 64, N 0, a byte short", SEGMENTS, 0, 0, MOST - 1);
-    sized(b"C 64, N 0, a byte more", SEGMENTS, 0, 0, MOST + 1);
-    sized(b"C 64, N 1", SEGMENTS, 1, 0, OVER);
-    sized(b"C 63, N 1", SEGMENTS - 1, 1, 0, MOST);
-    sized(b"C 0, N 64", 0, SEGMENTS, 0, MOST);
-    sized(b"C 0, N 65", 0, SEGMENTS + 1, 0, OVER);
-    sized(b"C 65, N 0", SEGMENTS + 1, 0, 0, OVER);
-    sized(b"C 65, N 0, a byte more", SEGMENTS + 1, 0, 0, OVER + 1);
-    sized(b"C 256, N 0", 256, 0, 0, Sizes::SIZE);
-    sized(b"C 64, B 4294967295", SEGMENTS, 0, 4294967295, MOST);
+fn segments(rt: &impl Print) -> io::Result<()> {
+    sized(rt, b"C 64, N 0", SEGMENTS, 0, 0, MOST)?;
+    sized(rt, b"C 64, N 0, a byte short", SEGMENTS, 0, 0, MOST - 1)?;
+    sized(rt, b"C 64, N 0, a byte more", SEGMENTS, 0, 0, MOST + 1)?;
+    sized(rt, b"C 64, N 1", SEGMENTS, 1, 0, OVER)?;
+    sized(rt, b"C 63, N 1", SEGMENTS - 1, 1, 0, MOST)?;
+    sized(rt, b"C 0, N 64", 0, SEGMENTS, 0, MOST)?;
+    sized(rt, b"C 0, N 65", 0, SEGMENTS + 1, 0, OVER)?;
+    sized(rt, b"C 65, N 0", SEGMENTS + 1, 0, 0, OVER)?;
+    sized(rt, b"C 65, N 0, a byte more", SEGMENTS + 1, 0, 0, OVER + 1)?;
+    sized(rt, b"C 256, N 0", 256, 0, 0, Sizes::SIZE)?;
+    sized(rt, b"C 64, B 4294967295", SEGMENTS, 0, 4294967295, MOST)
 }
 
 // ---- one segment
@@ -112,19 +120,26 @@ fn entry(local: usize, peers: u8) -> AsEntry {
 const ONE: usize = Sizes::SIZE + Head::SIZE;
 
 // A book of one segment: its head, B, and the peer counts of its first two entries.
-fn segment(h: Head, bodies: u16, first: u8, second: u8, length: usize) {
+fn segment(
+    rt: &impl Print,
+    h: Head,
+    bodies: u16,
+    first: u8,
+    second: u8,
+    length: usize,
+) -> io::Result<()> {
     let mut book = [0u8; ROOM];
     let to_head = builder::put_sizes(&mut book, 0, sizes(0, 1, bodies as u32));
     let to_first = builder::put_head(&mut book, to_head, h);
     let to_second = builder::put_entry(&mut book, to_first, entry(to_first, first));
     builder::put_entry(&mut book, to_second, entry(to_second, second));
-    answer(&book, length);
+    answer(rt, &book, length)
 }
 
 // A body as its head states it, in a book of that length; the peers of its first entry.
-fn one(label: &[u8], entries: u16, body: u16, peers: u8) {
-    say(label);
-    segment(head(entries, body), body, peers, 0, ONE + body as usize);
+fn one(rt: &impl Print, label: &[u8], entries: u16, body: u16, peers: u8) -> io::Result<()> {
+    say(rt, label)?;
+    segment(rt, head(entries, body), body, peers, 0, ONE + body as usize)
 }
 
 // The bytes of two entries, and a book of them.
@@ -133,9 +148,9 @@ const TWO: u16 = 2 * ENTRY;
 const PAIR: usize = ONE + 2 * AsEntry::SIZE;
 
 // Two entries: the body's length by its head, with B as it should be, and the peers of the second entry.
-fn pair(label: &[u8], body: u16, peers: u8, length: usize) {
-    say(label);
-    segment(head(2, body), TWO, 0, peers, length);
+fn pair(rt: &impl Print, label: &[u8], body: u16, peers: u8, length: usize) -> io::Result<()> {
+    say(rt, label)?;
+    segment(rt, head(2, body), TWO, 0, peers, length)
 }
 
 fn one_segment(core: bool, body: u16) -> Sizes {
@@ -146,7 +161,14 @@ fn one_segment(core: bool, body: u16) -> Sizes {
 }
 
 // A book of one segment, core or not, of so many entries; entry `again` has the AS of entry `first`.
-fn in_row(label: &[u8], core: bool, count: u8, first: u8, again: u8) {
+fn in_row(
+    rt: &impl Print,
+    label: &[u8],
+    core: bool,
+    count: u8,
+    first: u8,
+    again: u8,
+) -> io::Result<()> {
     let length = ONE + AsEntry::SIZE * count as usize;
     let mut book = [0u8; ROOM];
     let body = count as u16 * ENTRY;
@@ -156,166 +178,210 @@ fn in_row(label: &[u8], core: bool, count: u8, first: u8, again: u8) {
     let known = ONE + AsEntry::SIZE * first as usize;
     let at = ONE + AsEntry::SIZE * again as usize;
     builder::put_entry(&mut book, at, entry(known, 0));
-    say(label);
-    answer(&book, length);
+    say(rt, label)?;
+    answer(rt, &book, length)
 }
 
 // An entry with the most peers.
 const FULL: u16 = (AsEntry::SIZE + PeerEntry::SIZE * Limits::PEERS) as u16;
 
-fn bodies() {
-    pair(b"2 entries", TWO, 0, PAIR);
-    pair(b"2 entries, book a byte short", TWO, 0, PAIR - 1);
-    pair(b"2 entries, book a byte more", TWO, 0, PAIR + 1);
-    in_row(b"16 entries", false, Limits::ENTRIES as u8, 0, 0);
-    one(b"17 entries", ENTRIES + 1, (ENTRIES + 1) * ENTRY, 0);
-    one(b"256 entries", 256, 0, 0);
-    one(b"no entry", 0, 0, 0);
-    one(b"no entry, 1 byte", 0, 1, 0);
-    one(b"1 entry, body a byte short", 1, ENTRY - 1, 0);
-    one(b"1 entry, body a byte more", 1, ENTRY + 1, 0);
+fn bodies(rt: &impl Print) -> io::Result<()> {
+    pair(rt, b"2 entries", TWO, 0, PAIR)?;
+    pair(rt, b"2 entries, book a byte short", TWO, 0, PAIR - 1)?;
+    pair(rt, b"2 entries, book a byte more", TWO, 0, PAIR + 1)?;
+    in_row(rt, b"16 entries", false, Limits::ENTRIES as u8, 0, 0)?;
+    one(rt, b"17 entries", ENTRIES + 1, (ENTRIES + 1) * ENTRY, 0)?;
+    one(rt, b"256 entries", 256, 0, 0)?;
+    one(rt, b"no entry", 0, 0, 0)?;
+    one(rt, b"no entry, 1 byte", 0, 1, 0)?;
+    one(rt, b"1 entry, body a byte short", 1, ENTRY - 1, 0)?;
+    one(rt, b"1 entry, body a byte more", 1, ENTRY + 1, 0)
 }
 
-fn peers() {
-    one(b"4 peers", 1, FULL, PEERS);
-    one(b"5 peers in the bytes of 4", 1, FULL, PEERS + 1);
-    one(b"3 peers in the bytes of 4", 1, FULL, PEERS - 1);
-    one(b"5 peers", 1, FULL + PEER, PEERS + 1);
-    one(b"4 peers, body a byte short", 1, FULL - 1, PEERS);
-    one(b"4 peers, body a byte more", 1, FULL + 1, PEERS);
-    pair(b"5 peers at the second entry", TWO, PEERS + 1, PAIR);
-    pair(b"body lengths 51, B 52", TWO - 1, 0, PAIR);
-    pair(b"body lengths 53, B 52", TWO + 1, 0, PAIR);
+fn peers(rt: &impl Print) -> io::Result<()> {
+    one(rt, b"4 peers", 1, FULL, PEERS)?;
+    one(rt, b"5 peers in the bytes of 4", 1, FULL, PEERS + 1)?;
+    one(rt, b"3 peers in the bytes of 4", 1, FULL, PEERS - 1)?;
+    one(rt, b"5 peers", 1, FULL + PEER, PEERS + 1)?;
+    one(rt, b"4 peers, body a byte short", 1, FULL - 1, PEERS)?;
+    one(rt, b"4 peers, body a byte more", 1, FULL + 1, PEERS)?;
+    pair(rt, b"5 peers at the second entry", TWO, PEERS + 1, PAIR)?;
+    pair(rt, b"body lengths 51, B 52", TWO - 1, 0, PAIR)?;
+    pair(rt, b"body lengths 53, B 52", TWO + 1, 0, PAIR)
 }
 
 // ---- which answer comes first
 
 // A segment of one entry more than it may have, in a book of another length.
-fn long(label: &[u8], length: usize) {
-    say(label);
+fn long(rt: &impl Print, label: &[u8], length: usize) -> io::Result<()> {
+    say(rt, label)?;
     let body = (ENTRIES + 1) * ENTRY;
-    segment(head(ENTRIES + 1, body), body, 0, 0, length);
+    segment(rt, head(ENTRIES + 1, body), body, 0, 0, length)
 }
 
-fn lengths_first() {
+fn lengths_first(rt: &impl Print) -> io::Result<()> {
     let short = Sizes::SIZE - 1;
-    sized(b"under 8 bytes before Crowded", SEGMENTS + 1, 0, 0, short);
-    sized(b"Crowded before Cut", SEGMENTS + 1, 0, 0, Sizes::SIZE);
+    sized(
+        rt,
+        b"under 8 bytes before Crowded",
+        SEGMENTS + 1,
+        0,
+        0,
+        short,
+    )?;
+    sized(rt, b"Crowded before Cut", SEGMENTS + 1, 0, 0, Sizes::SIZE)?;
     let fit = ONE + AsEntry::SIZE * (Limits::ENTRIES + 1);
-    long(b"Cut before Long", fit - 1);
-    long(b"Surplus before Long", fit + 1);
+    long(rt, b"Cut before Long", fit - 1)?;
+    long(rt, b"Surplus before Long", fit + 1)
 }
 
 // A core and a non-core segment of one entry each, of one AS: their heads, and the peers of the entries. B and the book's length fit.
-fn two(core: Head, other: Head, first: u8, second: u8) {
+fn two(rt: &impl Print, core: Head, other: Head, first: u8, second: u8) -> io::Result<()> {
     let mut book = [0u8; ROOM];
     let to_core = builder::put_sizes(&mut book, 0, sizes(1, 1, TWO as u32));
     let to_other = builder::put_head(&mut book, to_core, core);
     let to_first = builder::put_head(&mut book, to_other, other);
     let to_second = builder::put_entry(&mut book, to_first, entry(0, first));
     builder::put_entry(&mut book, to_second, entry(0, second));
-    answer(&book, PAIR + Head::SIZE);
+    answer(rt, &book, PAIR + Head::SIZE)
 }
 
-fn heads_first() {
-    say(b"two of 1 entry, of one AS");
-    two(head(1, ENTRY), head(1, ENTRY), 0, 0);
-    say(b"Long of the last head before Peers of the first body");
-    two(head(1, ENTRY), head(ENTRIES + 1, ENTRY), PEERS + 1, 0);
-    say(b"Long of the last head before Misfit of the sum");
-    two(head(1, ENTRY), head(ENTRIES + 1, ENTRY - 1), PEERS + 1, 0);
-    say(b"Misfit of the sum before Peers");
-    two(head(1, ENTRY), head(1, ENTRY - 1), PEERS + 1, 0);
+fn heads_first(rt: &impl Print) -> io::Result<()> {
+    say(rt, b"two of 1 entry, of one AS")?;
+    two(rt, head(1, ENTRY), head(1, ENTRY), 0, 0)?;
+    say(rt, b"Long of the last head before Peers of the first body")?;
+    two(rt, head(1, ENTRY), head(ENTRIES + 1, ENTRY), PEERS + 1, 0)?;
+    say(rt, b"Long of the last head before Misfit of the sum")?;
+    two(
+        rt,
+        head(1, ENTRY),
+        head(ENTRIES + 1, ENTRY - 1),
+        PEERS + 1,
+        0,
+    )?;
+    say(rt, b"Misfit of the sum before Peers")?;
+    two(rt, head(1, ENTRY), head(1, ENTRY - 1), PEERS + 1, 0)
 }
 
-fn bodies_by_position() {
-    say(b"Misfit of the first body before Peers of the second");
-    two(head(2, ENTRY), head(1, ENTRY), 0, PEERS + 1);
-    say(b"Peers of the first body before Misfit of the second");
-    two(head(1, ENTRY), head(2, ENTRY), PEERS + 1, 0);
-    say(b"Peers before Misfit of the peers");
-    two(head(1, ENTRY), head(1, ENTRY), PEERS + 1, 0);
-    say(b"Misfit of the peers");
-    two(head(1, ENTRY), head(1, ENTRY), PEERS, 0);
-    say(b"Misfit of the entry before Peers");
-    two(head(1, ENTRY - 1), head(1, ENTRY + 1), PEERS + 1, 0);
+fn bodies_by_position(rt: &impl Print) -> io::Result<()> {
+    say(rt, b"Misfit of the first body before Peers of the second")?;
+    two(rt, head(2, ENTRY), head(1, ENTRY), 0, PEERS + 1)?;
+    say(rt, b"Peers of the first body before Misfit of the second")?;
+    two(rt, head(1, ENTRY), head(2, ENTRY), PEERS + 1, 0)?;
+    say(rt, b"Peers before Misfit of the peers")?;
+    two(rt, head(1, ENTRY), head(1, ENTRY), PEERS + 1, 0)?;
+    say(rt, b"Misfit of the peers")?;
+    two(rt, head(1, ENTRY), head(1, ENTRY), PEERS, 0)?;
+    say(rt, b"Misfit of the entry before Peers")?;
+    two(rt, head(1, ENTRY - 1), head(1, ENTRY + 1), PEERS + 1, 0)
 }
 
 // ---- one AS twice
 
-fn twice() {
-    in_row(b"1 entry", false, 1, 0, 0);
-    in_row(b"1 entry, core", true, 1, 0, 0);
-    in_row(b"2 entries of one AS", false, 2, 0, 1);
-    in_row(b"2 entries of one AS, core", true, 2, 0, 1);
-    in_row(b"first and last of 3", false, 3, 0, 2);
-    in_row(b"first and last of 3, core", true, 3, 0, 2);
-    in_row(b"first and second of 3", false, 3, 0, 1);
-    in_row(b"second and last of 3", false, 3, 1, 2);
-    in_row(b"second and third of 4", false, 4, 1, 2);
-    in_row(b"second and fourth of 5, core", true, 5, 1, 3);
-    in_row(b"first and last of 16", false, 16, 0, 15);
-    in_row(b"first and last of 16, core", true, 16, 0, 15);
-    in_row(b"14th and 15th of 16", false, 16, 13, 14);
-    in_row(b"16 entries, core", true, 16, 0, 0);
+fn twice(rt: &impl Print) -> io::Result<()> {
+    in_row(rt, b"1 entry", false, 1, 0, 0)?;
+    in_row(rt, b"1 entry, core", true, 1, 0, 0)?;
+    in_row(rt, b"2 entries of one AS", false, 2, 0, 1)?;
+    in_row(rt, b"2 entries of one AS, core", true, 2, 0, 1)?;
+    in_row(rt, b"first and last of 3", false, 3, 0, 2)?;
+    in_row(rt, b"first and last of 3, core", true, 3, 0, 2)?;
+    in_row(rt, b"first and second of 3", false, 3, 0, 1)?;
+    in_row(rt, b"second and last of 3", false, 3, 1, 2)?;
+    in_row(rt, b"second and third of 4", false, 4, 1, 2)?;
+    in_row(rt, b"second and fourth of 5, core", true, 5, 1, 3)?;
+    in_row(rt, b"first and last of 16", false, 16, 0, 15)?;
+    in_row(rt, b"first and last of 16, core", true, 16, 0, 15)?;
+    in_row(rt, b"14th and 15th of 16", false, 16, 13, 14)?;
+    in_row(rt, b"16 entries, core", true, 16, 0, 0)
 }
 
 // A non-core segment of two entries: their ASes, and the book's length.
-fn ases(label: &[u8], first: usize, second: usize, length: usize) {
+fn ases(
+    rt: &impl Print,
+    label: &[u8],
+    first: usize,
+    second: usize,
+    length: usize,
+) -> io::Result<()> {
     let mut book = [0u8; ROOM];
     let to_head = builder::put_sizes(&mut book, 0, sizes(0, 1, TWO as u32));
     let to_first = builder::put_head(&mut book, to_head, head(2, TWO));
     let to_second = builder::put_entry(&mut book, to_first, entry(first, 0));
     builder::put_entry(&mut book, to_second, entry(second, 0));
-    say(label);
-    answer(&book, length);
+    say(rt, label)?;
+    answer(rt, &book, length)
 }
 
 // ISD 1, AS ff00:0:110.
 const A: usize = 0x0001_ff00_0000_0110;
 
-fn numbers() {
-    ases(b"one AS", A, A, PAIR);
-    ases(b"one AS number in two ISDs", A, 0x0002_ff00_0000_0110, PAIR);
-    ases(b"two AS numbers in one ISD", A, 0x0001_ff00_0000_0120, PAIR);
-    ases(b"bit 63 differs", A, 0x8001_ff00_0000_0110, PAIR);
-    ases(b"bit 48 differs", A, 0x0000_ff00_0000_0110, PAIR);
-    ases(b"bit 47 differs", A, 0x0001_7f00_0000_0110, PAIR);
-    ases(b"bit 32 differs", A, 0x0001_ff01_0000_0110, PAIR);
-    ases(b"bit 31 differs", A, 0x0001_ff00_8000_0110, PAIR);
-    ases(b"bit 0 differs", A, 0x0001_ff00_0000_0111, PAIR);
-    ases(b"Cut before Twice", A, A, PAIR - 1);
-    ases(b"Surplus before Twice", A, A, PAIR + 1);
-    ases(b"Oversize before Twice", A, A, ROOM);
+fn numbers(rt: &impl Print) -> io::Result<()> {
+    ases(rt, b"one AS", A, A, PAIR)?;
+    ases(
+        rt,
+        b"one AS number in two ISDs",
+        A,
+        0x0002_ff00_0000_0110,
+        PAIR,
+    )?;
+    ases(
+        rt,
+        b"two AS numbers in one ISD",
+        A,
+        0x0001_ff00_0000_0120,
+        PAIR,
+    )?;
+    ases(rt, b"bit 63 differs", A, 0x8001_ff00_0000_0110, PAIR)?;
+    ases(rt, b"bit 48 differs", A, 0x0000_ff00_0000_0110, PAIR)?;
+    ases(rt, b"bit 47 differs", A, 0x0001_7f00_0000_0110, PAIR)?;
+    ases(rt, b"bit 32 differs", A, 0x0001_ff01_0000_0110, PAIR)?;
+    ases(rt, b"bit 31 differs", A, 0x0001_ff00_8000_0110, PAIR)?;
+    ases(rt, b"bit 0 differs", A, 0x0001_ff00_0000_0111, PAIR)?;
+    ases(rt, b"Cut before Twice", A, A, PAIR - 1)?;
+    ases(rt, b"Surplus before Twice", A, A, PAIR + 1)?;
+    ases(rt, b"Oversize before Twice", A, A, ROOM)
 }
 
 const THREE: u16 = 3 * ENTRY;
 
 // The same of three entries, in a book that fits.
-fn three_ases(label: &[u8], first: usize, second: usize, third: usize) {
+fn three_ases(
+    rt: &impl Print,
+    label: &[u8],
+    first: usize,
+    second: usize,
+    third: usize,
+) -> io::Result<()> {
     let mut book = [0u8; ROOM];
     let to_head = builder::put_sizes(&mut book, 0, sizes(0, 1, THREE as u32));
     let to_first = builder::put_head(&mut book, to_head, head(3, THREE));
     let to_second = builder::put_entry(&mut book, to_first, entry(first, 0));
     let to_third = builder::put_entry(&mut book, to_second, entry(second, 0));
     builder::put_entry(&mut book, to_third, entry(third, 0));
-    say(label);
-    answer(&book, PAIR + AsEntry::SIZE);
+    say(rt, label)?;
+    answer(rt, &book, PAIR + AsEntry::SIZE)
 }
 
 // Their last bytes are equal.
-fn last_bytes() {
+fn last_bytes(rt: &impl Print) -> io::Result<()> {
     let b = 0x0001_ff00_0000_0210;
     let c = 0x0002_ff00_0000_0110;
-    three_ases(b"three ASes", A, b, c);
-    three_ases(b"the third is the first", A, b, A);
-    three_ases(b"the third is the second", A, c, c);
-    three_ases(b"the second is the first", A, A, b);
+    three_ases(rt, b"three ASes", A, b, c)?;
+    three_ases(rt, b"the third is the first", A, b, A)?;
+    three_ases(rt, b"the third is the second", A, c, c)?;
+    three_ases(rt, b"the second is the first", A, A, b)
 }
 
 // A core and a non-core segment of three entries together, all of one AS: their heads, and the peers of the entries. B and the book's
 // length fit.
-fn three(core: Head, other: Head, first: u8, second: u8, third: u8) {
+fn three(
+    rt: &impl Print,
+    core: Head,
+    other: Head,
+    first: u8,
+    second: u8,
+    third: u8,
+) -> io::Result<()> {
     let mut book = [0u8; ROOM];
     let to_core = builder::put_sizes(&mut book, 0, sizes(1, 1, THREE as u32));
     let to_other = builder::put_head(&mut book, to_core, core);
@@ -323,39 +389,39 @@ fn three(core: Head, other: Head, first: u8, second: u8, third: u8) {
     let to_second = builder::put_entry(&mut book, to_first, entry(0, first));
     let to_third = builder::put_entry(&mut book, to_second, entry(0, second));
     builder::put_entry(&mut book, to_third, entry(0, third));
-    answer(&book, PAIR + AsEntry::SIZE + Head::SIZE);
+    answer(rt, &book, PAIR + AsEntry::SIZE + Head::SIZE)
 }
 
-fn other_bodies() {
-    say(b"Twice of the first body");
-    three(head(2, TWO), head(1, ENTRY), 0, 0, 0);
-    say(b"Twice of the second body");
-    three(head(1, ENTRY), head(2, TWO), 0, 0, 0);
-    say(b"Twice of the first body before Peers of the second");
-    three(head(2, TWO), head(1, ENTRY), 0, 0, PEERS + 1);
-    say(b"Twice of the first body before Misfit of the second");
-    three(head(2, TWO), head(2, ENTRY), 0, 0, 0);
-    say(b"Peers of the first body before Twice of the second");
-    three(head(1, ENTRY), head(2, TWO), PEERS + 1, 0, 0);
-    say(b"Misfit of the first body before Twice of the second");
-    three(head(0, ENTRY), head(2, TWO), 0, 0, 0);
-    say(b"Long of the last head before Twice of the first body");
-    three(head(2, TWO), head(ENTRIES + 1, ENTRY), 0, 0, 0);
-    say(b"Misfit of the sum before Twice");
-    three(head(2, TWO), head(1, ENTRY - 1), 0, 0, 0);
+fn other_bodies(rt: &impl Print) -> io::Result<()> {
+    say(rt, b"Twice of the first body")?;
+    three(rt, head(2, TWO), head(1, ENTRY), 0, 0, 0)?;
+    say(rt, b"Twice of the second body")?;
+    three(rt, head(1, ENTRY), head(2, TWO), 0, 0, 0)?;
+    say(rt, b"Twice of the first body before Peers of the second")?;
+    three(rt, head(2, TWO), head(1, ENTRY), 0, 0, PEERS + 1)?;
+    say(rt, b"Twice of the first body before Misfit of the second")?;
+    three(rt, head(2, TWO), head(2, ENTRY), 0, 0, 0)?;
+    say(rt, b"Peers of the first body before Twice of the second")?;
+    three(rt, head(1, ENTRY), head(2, TWO), PEERS + 1, 0, 0)?;
+    say(rt, b"Misfit of the first body before Twice of the second")?;
+    three(rt, head(0, ENTRY), head(2, TWO), 0, 0, 0)?;
+    say(rt, b"Long of the last head before Twice of the first body")?;
+    three(rt, head(2, TWO), head(ENTRIES + 1, ENTRY), 0, 0, 0)?;
+    say(rt, b"Misfit of the sum before Twice")?;
+    three(rt, head(2, TWO), head(1, ENTRY - 1), 0, 0, 0)
 }
 
-fn same_body() {
-    say(b"3 entries of one AS");
-    three(head(3, THREE), head(0, 0), 0, 0, 0);
-    say(b"Peers of a later entry before Twice");
-    three(head(3, THREE), head(0, 0), 0, 0, PEERS + 1);
-    say(b"Misfit of a later entry before Twice");
-    three(head(3, THREE - 1), head(0, 1), 0, 0, 0);
-    say(b"Misfit of a later entry's peer before Twice");
-    three(head(3, THREE), head(0, 0), 0, 0, 1);
-    say(b"Misfit of the bytes after them before Twice");
-    three(head(2, THREE), head(0, 0), 0, 0, 0);
+fn same_body(rt: &impl Print) -> io::Result<()> {
+    say(rt, b"3 entries of one AS")?;
+    three(rt, head(3, THREE), head(0, 0), 0, 0, 0)?;
+    say(rt, b"Peers of a later entry before Twice")?;
+    three(rt, head(3, THREE), head(0, 0), 0, 0, PEERS + 1)?;
+    say(rt, b"Misfit of a later entry before Twice")?;
+    three(rt, head(3, THREE - 1), head(0, 1), 0, 0, 0)?;
+    say(rt, b"Misfit of a later entry's peer before Twice")?;
+    three(rt, head(3, THREE), head(0, 0), 0, 0, 1)?;
+    say(rt, b"Misfit of the bytes after them before Twice")?;
+    three(rt, head(2, THREE), head(0, 0), 0, 0, 0)
 }
 
 // ---- the longest book
@@ -396,35 +462,35 @@ const SMALL: usize = Limits::BOOK - 14 * (AsEntry::SIZE + PeerEntry::SIZE);
 
 const LAST: usize = Limits::BOOK - (AsEntry::SIZE + PeerEntry::SIZE);
 
-fn large() {
+fn large(rt: &impl Print) -> io::Result<()> {
     let mut book = [0u8; ROOM];
     longest(&mut book);
-    say(b"61440 bytes");
-    answer(&book, Limits::BOOK);
+    say(rt, b"61440 bytes")?;
+    answer(rt, &book, Limits::BOOK)?;
     builder::put_entry(&mut book, LAST, entry(SMALL, 1));
-    say(b"61440 bytes, Twice of the last entry");
-    answer(&book, Limits::BOOK);
-    say(b"61440 bytes, one taken off");
-    answer(&book, Limits::BOOK - 1);
-    say(b"61441 bytes");
-    answer(&book, ROOM);
-    sized(b"Oversize before Surplus", 0, 0, 0, ROOM);
-    sized(b"Oversize before Crowded", SEGMENTS + 1, 0, 0, ROOM);
-    sized(b"Oversize before Cut", 0, 0, 4294967295, ROOM);
+    say(rt, b"61440 bytes, Twice of the last entry")?;
+    answer(rt, &book, Limits::BOOK)?;
+    say(rt, b"61440 bytes, one taken off")?;
+    answer(rt, &book, Limits::BOOK - 1)?;
+    say(rt, b"61441 bytes")?;
+    answer(rt, &book, ROOM)?;
+    sized(rt, b"Oversize before Surplus", 0, 0, 0, ROOM)?;
+    sized(rt, b"Oversize before Crowded", SEGMENTS + 1, 0, 0, ROOM)?;
+    sized(rt, b"Oversize before Cut", 0, 0, 4294967295, ROOM)
 }
 
-fn main() {
-    lengths();
-    segments();
-    bodies();
-    peers();
-    lengths_first();
-    heads_first();
-    bodies_by_position();
-    twice();
-    numbers();
-    last_bytes();
-    other_bodies();
-    same_body();
-    large();
+fn main(rt: HostRuntime) -> io::Result<()> {
+    lengths(&rt)?;
+    segments(&rt)?;
+    bodies(&rt)?;
+    peers(&rt)?;
+    lengths_first(&rt)?;
+    heads_first(&rt)?;
+    bodies_by_position(&rt)?;
+    twice(&rt)?;
+    numbers(&rt)?;
+    last_bytes(&rt)?;
+    other_bodies(&rt)?;
+    same_body(&rt)?;
+    large(&rt)
 }

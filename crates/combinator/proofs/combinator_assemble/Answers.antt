@@ -15,4 +15,4 @@ pub returns-in-Bare : goal.returns-in-Bare
 returns-in-Bare c = path-number _ _ _ _ _ _ _ c.assemble-answer.ensures _ _ c.in-Bare.is refl
 
 pub returns-in-Refused : goal.returns-in-Refused
-returns-in-Refused c = path-number _ _ _ _ _ _ _ c.assemble-answer.ensures _ _ c.answer-1.given.1 (ap (λ n. refusals + n) c.number.ensures.0)
+returns-in-Refused c = path-number _ _ _ _ _ _ _ c.assemble-answer.ensures _ _ c.in-Refused.is (ap (λ n. refusals + n) c.number.ensures.0)

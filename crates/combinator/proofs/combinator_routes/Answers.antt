@@ -4,10 +4,10 @@ use Rattle.combinator.proofs.Returning.{routes-most, routes-count, routes-refusa
 use Rattle.combinator.proofs.combinator_routes.Goals as goal
 
 pub overflow_cast-result : goal.overflow_cast-result
-overflow_cast-result c = omega (arith, routes-most _ _ _ _ _ _ c.routes-answer.ensures _ c.answer-1.given.1)
+overflow_cast-result c = omega (arith, routes-most _ _ _ _ _ _ c.routes-answer.ensures _ c.in-Count.is)
 
 pub returns-in-Count : goal.returns-in-Count
-returns-in-Count c = routes-count _ _ _ _ _ _ c.routes-answer.ensures _ c.answer-1.given.1
+returns-in-Count c = routes-count _ _ _ _ _ _ c.routes-answer.ensures _ c.in-Count.is
 
 pub returns-in-Refused : goal.returns-in-Refused
-returns-in-Refused c = routes-refusal _ _ _ _ _ _ c.routes-answer.ensures _ _ c.answer-in-Refused-1.given.1 c.number.ensures.0
+returns-in-Refused c = routes-refusal _ _ _ _ _ _ c.routes-answer.ensures _ _ c.in-Refused.is c.number.ensures.0

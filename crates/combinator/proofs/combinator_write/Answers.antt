@@ -6,12 +6,12 @@ use Rattle.combinator.proofs.Returning.{wire-told, wire-count, wire-refusal}
 use Rattle.combinator.proofs.combinator_write.Goals as goal
 
 pub overflow_cast-result : goal.overflow_cast-result
-overflow_cast-result c = omega (arith, ((reversible _ (λ i. (c.type_inv.path i).fits)).wire-count _ _ (wire-told _ _ _ c.write-answer.ensures _ c.answer-1.given.1)).1)
+overflow_cast-result c = omega (arith, ((reversible _ (λ i. (c.type_inv.path i).fits)).wire-count _ _ (wire-told _ _ _ c.write-answer.ensures _ c.in-Count.is)).1)
 
 pub returns-in-Count : goal.returns-in-Count
 unfolding write_returned
-returns-in-Count c = wire-count _ _ _ c.write-answer.ensures _ c.answer-1.given.1
+returns-in-Count c = wire-count _ _ _ c.write-answer.ensures _ c.in-Count.is
 
 pub returns-in-Refused : goal.returns-in-Refused
 unfolding write_returned
-returns-in-Refused c = wire-refusal _ _ _ c.write-answer.ensures _ _ c.answer-in-Refused-1.given.1 c.number.ensures.0
+returns-in-Refused c = wire-refusal _ _ _ c.write-answer.ensures _ _ c.in-Refused.is c.number.ensures.0

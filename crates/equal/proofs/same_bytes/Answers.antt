@@ -1,6 +1,5 @@
 -- `same_bytes` meets its contract. The loop's invariant: what is left says what the whole says.
 use mathlib.Core.Path.{sym, ◌∙◌}
-use Prim.Native.Nat.{◌-◌}
 use native.Mathlib.Omega.{arith}
 use Rattle.equal.proofs.Sameness.{from_start, bytes_next, bytes-differ, bytes_same}
 use Rattle.equal.proofs.same_bytes.Goals as goal

@@ -1,6 +1,5 @@
 -- `same_rest` meets its contract: at each return, the tests on the way there settle the definition's.
 use mathlib.Core.Path.{sym, ◌∙◌}
-use borrow.Author.Tests.{not-true, not-false}
 use Rattle.equal.proofs.Sameness.{other-time, other-kind, by-bodies}
 use Rattle.equal.proofs.same_rest.Goals as goal
 

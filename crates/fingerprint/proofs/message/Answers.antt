@@ -1,7 +1,7 @@
 -- `message` meets its contract. The loop's invariant: what i entries give is written, and `at` is the next entry's offset.
 use mathlib.Core.Path.{refl, ap, ◌∙◌}
 use mathlib.Core.List.{flat_map}
-use Prim.Native.Nat.{◌+◌, ◌*◌, ◌-◌}
+use Prim.Native.Nat.{◌+◌, ◌*◌}
 use native.Mathlib.Omega.{arith}
 use lib.ListN.{length, take}
 use Rattle.spec.specs.Book.{entries_at, entry_offset}

@@ -1,6 +1,5 @@
 -- `output::zero` meets its contract. The invariant of its loop: the zeros up to i are written.
 use mathlib.Core.Path.{refl, ◌∙◌}
-use Prim.Native.Nat.{◌-◌}
 use native.Mathlib.Omega.{arith}
 use lib.ListN.{length-set}
 use Rattle.output.proofs.Writing.{zeros-none, zeros-more, zeros-all}

@@ -1,5 +1,5 @@
 -- `sha256::marked` meets its contract. The loop's invariant: the first j bytes are copied, and zeros follow.
-use Rattle.std.proofs.Common.{◌-◌, refl, arith}
+use Rattle.std.proofs.Common.{refl, arith}
 use Rattle.sha256.proofs.Padding.{copied, mark}
 use Rattle.sha256.proofs.marked.Goals as goal
 

@@ -1,5 +1,5 @@
 -- `sha256::words` meets its contract. The loop's invariant: the words before the next one are those of the definition's recursion.
-use Rattle.std.proofs.Common.{◌≡◌, ℕ, ◌+◌, ◌-◌, ◌*◌, ◌<◌, ◌≤◌, List, length, take, set, refl, ◌∙◌, add-one, arith, length-set}
+use Rattle.std.proofs.Common.{◌≡◌, ℕ, ◌+◌, ◌*◌, ◌<◌, ◌≤◌, List, length, take, set, refl, ◌∙◌, add-one, arith, length-set}
 use Rattle.sha256.specs.Words.{word_at}
 use Rattle.sha256.specs.Hash.{words}
 use Rattle.sha256.proofs.Lists.{take-stored}

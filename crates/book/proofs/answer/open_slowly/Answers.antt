@@ -13,7 +13,7 @@ returns-in-Refused c =
 
 pub fill_rows-v-requires : goal.fill_rows-v-requires
 unfolding no_offsets
-fill_rows-v-requires c = record { sized = sized-book _ c.sizes_verdict-s.ensures c.in_default.is; table_value = refl; }
+fill_rows-v-requires c = record { sized = sized-book _ c.sizes_verdict-s.ensures c.in_default.is; table_value = refl }
 
 pub returns-in-Refused-v : goal.returns-in-Refused-v
 unfolding no_offsets

@@ -1,6 +1,6 @@
 -- `fill_row` meets its contract. The loop's invariant: what is left says what the whole says, i offsets are stored, and `at` is the next.
 use mathlib.Core.Path.{◌≡◌, refl, sym, ap, ◌∙◌}
-use Prim.Native.Nat.{◌+◌, ◌*◌, ◌-◌}
+use Prim.Native.Nat.{◌+◌, ◌*◌}
 use native.Mathlib.Omega.{arith}
 use Rattle.spec.specs.Limits.{entry_size, peer_size, peer_count_offset}
 use Rattle.spec.specs.Book.{entry_offset}

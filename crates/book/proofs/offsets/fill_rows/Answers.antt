@@ -1,7 +1,5 @@
 -- `fill_rows` meets its contract. The loop's invariant: what is left says what the whole says, the rows before k are stored, and `at` is where the next body starts.
 use mathlib.Core.Path.{refl, sym, ap, ◌∙◌}
-use mathlib.Core.Bool.{true}
-use Prim.Native.Nat.{◌-◌}
 use native.Mathlib.Omega.{arith}
 use lib.ListN.{length}
 use Rattle.segment.proofs.Positions.{body-next}
@@ -22,7 +20,7 @@ pub count_within-requires : goal.count_within-requires
 count_within-requires c = heads-inside _ c.requires.sized _ (rw c.segment_count-count.ensures.0 at c.loop-k-test.true)
 
 pub fill_row-v-requires : goal.fill_row-v-requires
-fill_row-v-requires c = record { body = body-fits _ c.requires.sized _ (rw c.segment_count-count.ensures.0 at c.loop-k-test.true) c.loop-k.invariant.2 (c.wide.ensures.0 ∙ c.length_within.ensures) (c.wide-n.ensures.0 ∙ c.count_within.ensures); sizes_value = c.entry_sizes-sizes.ensures; }
+fill_row-v-requires c = record { body = body-fits _ c.requires.sized _ (rw c.segment_count-count.ensures.0 at c.loop-k-test.true) c.loop-k.invariant.2 (c.wide.ensures.0 ∙ c.length_within.ensures) (c.wide-n.ensures.0 ∙ c.count_within.ensures); sizes_value = c.entry_sizes-sizes.ensures }
 
 pub returns-in-Refused : goal.returns-in-Refused
 returns-in-Refused c =

@@ -1,7 +1,5 @@
 -- `marked_row` meets its contract. The loop's invariant: what is left says what the whole says, i offsets are stored, `at` is the next, the marks of the entries before are seen, and none was seen again.
 use mathlib.Core.Path.{refl, sym, ◌∙◌}
-use mathlib.Core.Bool.{false}
-use Prim.Native.Nat.{◌-◌}
 use native.Mathlib.Omega.{arith}
 use borrow.Author.Tests.{not-true}
 use Rattle.spec.specs.Book.{entry_offset}

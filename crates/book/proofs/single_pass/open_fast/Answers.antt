@@ -17,7 +17,7 @@ pub returns-then-start-sizes : goal.returns-then-start-sizes
 returns-then-start-sizes c q = not-both q refl
 
 pub scan-requires : goal.scan-requires
-scan-requires c = record { fronted = front _ c.if-n-gt-BOOK.false c.segment_count-all.ensures.0 c.if-all-gt-SEGMENTS.false c.sizes.ensures c.if-start-sizes.false; table_value = c.requires; }
+scan-requires c = record { fronted = front _ c.if-n-gt-BOOK.false c.segment_count-all.ensures.0 c.if-all-gt-SEGMENTS.false c.sizes.ensures c.if-start-sizes.false; table_value = c.requires }
 
 pub returns : goal.returns
 returns c = c.scan.ensures

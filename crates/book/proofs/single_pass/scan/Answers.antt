@@ -1,9 +1,8 @@
 -- `scan` meets its contract. The loop's invariant: what is left says what the whole says, of heads and of bodies, the rows before k are stored, and `at`, `head` and `row` are where the next body, head and row start.
 use mathlib.Core.Path.{refl, ap, ◌∙◌}
-use Prim.Native.Nat.{◌-◌}
 use native.Mathlib.Omega.{arith}
 use lib.ListN.{length}
-use borrow.Author.Tests.{eqb-true, not-false}
+use borrow.Author.Tests.{eqb-true}
 use Rattle.spec.proofs.Membership.{not-both}
 use Rattle.segment.proofs.Positions.{body-next, any_next}
 use Rattle.book.specs.Offsets.{rows_below}
@@ -38,7 +37,7 @@ returns-then-book-end c = λ q. not-both q refl
 
 pub row_passes-requires : goal.row_passes-requires
 row_passes-requires c =
-    let l = c.loop-k.invariant in record { body = front-body _ c.requires.fronted _ c.loop-k-test.true l.7 c.if-n-gt-ENTRIES.false (omega arith) c.if-book-end.false; sizes_value = c.entry_sizes-sizes.ensures; table_len = ap length l.3 ∙ rows-length _ _; }
+    let l = c.loop-k.invariant in record { body = front-body _ c.requires.fronted _ c.loop-k-test.true l.7 c.if-n-gt-ENTRIES.false (omega arith) c.if-book-end.false; sizes_value = c.entry_sizes-sizes.ensures; table_len = ap length l.3 ∙ rows-length _ _ }
 
 pub returns-then-not-row_passes : goal.returns-then-not-row_passes
 returns-then-not-row_passes c = λ q. not-both q refl

@@ -46,7 +46,7 @@ pub returns-then-at-sizes : goal.returns-then-at-sizes
 returns-then-at-sizes c = λ q. not-both q refl
 
 pub same_as-requires : goal.same_as-requires
-same_as-requires c = record { entry_size_in_bounds = omega (arith, c.requires.body.inside); entry_size_in_bounds_2 = omega (arith, c.requires.body.inside); }
+same_as-requires c = record { entry_size_in_bounds = omega (arith, c.requires.body.inside); entry_size_in_bounds_2 = omega (arith, c.requires.body.inside) }
 
 pub returns : goal.returns
 returns c =

@@ -1,6 +1,5 @@
 -- `bodies_end` meets its contract. The loop's invariant: `at` is where the body at k starts.
 use mathlib.Core.Path.{ap, ◌∙◌}
-use Prim.Native.Nat.{◌-◌}
 use native.Mathlib.Omega.{arith}
 use Rattle.spec.specs.Book.{body_offset}
 use Rattle.segment.proofs.Positions.{body-next}

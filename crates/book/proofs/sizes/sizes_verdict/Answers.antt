@@ -22,14 +22,14 @@ returns-then-whole-n c =
     sym (surplus _ c.if-n-gt-BOOK.false c.if-n-lt-SIZE.false c.segment_count-all.ensures.0 c.if-all-gt-SEGMENTS.false c.body_offset-start.ensures.0 c.sizes.ensures c.if-n-whole.false c.if-whole-n.true)
 
 pub too_long-requires : goal.too_long-requires
-too_long-requires c = record { count_value = omega arith; count_in_bounds = omega (arith, heads-first c.args.book.now); }
+too_long-requires c = record { count_value = omega arith; count_in_bounds = omega (arith, heads-first c.args.book.now) }
 
 pub returns-then-too_long : goal.returns-then-too_long
 returns-then-too_long c =
     sym (long _ c.if-n-gt-BOOK.false c.if-n-lt-SIZE.false c.segment_count-all.ensures.0 c.if-all-gt-SEGMENTS.false c.body_offset-start.ensures.0 c.sizes.ensures c.if-n-whole.false c.if-whole-n.false c.too_long.ensures c.if-too_long.true)
 
 pub bodies_end-requires : goal.bodies_end-requires
-bodies_end-requires c = record { start_value = omega arith; start_bound = omega arith; count_in_bounds = omega (arith, heads-first c.args.book.now); }
+bodies_end-requires c = record { start_value = omega arith; start_bound = omega arith; count_in_bounds = omega (arith, heads-first c.args.book.now) }
 
 pub returns-then-bodies_end-n : goal.returns-then-bodies_end-n
 returns-then-bodies_end-n c =

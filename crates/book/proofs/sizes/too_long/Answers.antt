@@ -1,6 +1,5 @@
 -- `too_long` meets its contract. The loop's invariant: whether a head is too long shows in those from k on.
 use mathlib.Core.Path.{sym, ◌∙◌}
-use Prim.Native.Nat.{◌-◌}
 use native.Mathlib.Omega.{arith}
 use Rattle.segment.proofs.Positions.{any_here, any_next, any-done}
 use Rattle.book.proofs.Turns.{long-all, is-long, not-long}

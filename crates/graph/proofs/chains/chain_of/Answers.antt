@@ -4,10 +4,10 @@ use Rattle.graph.proofs.RecordWalkTurns.{refused-said, accepted-said}
 use Rattle.graph.proofs.chains.chain_of.Goals as goal
 
 pub returns-in-Refused : goal.returns-in-Refused
-returns-in-Refused c = (refused-said _ _ c.«open».ensures.0 _ _ _ _ c.v-1.given.1, c.«open».ensures.1)
+returns-in-Refused c = (refused-said _ _ c.open-v.ensures.0 _ _ _ _ c.in-Refused.is, c.open-v.ensures.1)
 
 pub chain_in-requires : goal.chain_in-requires
-chain_in-requires c = opened-ready _ _ c.«open».ensures.0 c.«open».ensures.1 c.in-Refused.is
+chain_in-requires c = opened-ready _ _ c.open-v.ensures.0 c.open-v.ensures.1 c.in_default.is
 
 pub returns : goal.returns
-returns c = (accepted-said _ _ c.«open».ensures.0 _ _ _ c.in-Refused.is c.chain_in.ensures, c.«open».ensures.1)
+returns c = (accepted-said _ _ c.open-v.ensures.0 _ _ _ c.in_default.is c.chain_in.ensures, c.open-v.ensures.1)

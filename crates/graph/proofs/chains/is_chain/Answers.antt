@@ -7,8 +7,6 @@ use Rattle.graph.specs.RecordWalk.{begun}
 use Rattle.graph.proofs.RecordWalkTurns.{bounded-two, bounded-further, all-passed, edge-gone, edge-astray, edge-passed}
 use Rattle.graph.proofs.chains.is_chain.Goals as goal
 
-)
-
 pub loop-x-init : goal.loop-x-init
 loop-x-init c = (omega arith, record { cost = omega arith; kinds = omega arith }, refl)
 
@@ -21,7 +19,7 @@ returns-in_default c = sym (c.loop-x.invariant.2 ∙ edge-gone _ _ _ _ _ _ c.loo
 
 pub returns-then-not-goes_on : goal.returns-then-not-goes_on
 unfolding begun
-returns-then-not-goes_on c = sym (c.loop-x.invariant.2 ∙ edge-astray _ _ _ _ _ _ c.loop-x-test.true c.edge-id.ensures _ c.edge_of-found.ensures c.found-1.given.1 c.goes_on.ensures c.if-not-goes_on.true)
+returns-then-not-goes_on c = sym (c.loop-x.invariant.2 ∙ edge-astray _ _ _ _ _ _ c.loop-x-test.true c.edge-id.ensures _ c.edge_of-found.ensures c.in-Edge.is c.goes_on.ensures c.if-not-goes_on.true)
 
 pub one_further-reached-requires : goal.one_further-reached-requires
 one_further-reached-requires c = bounded-two _ _ (omega (arith, c.requires.count_le_max_edges)) c.loop-x.invariant.1
@@ -33,10 +31,11 @@ pub loop-x-preserved : goal.loop-x-preserved
 loop-x-preserved c = (
   omega arith,
   bounded-further _ _ _ (omega (arith, c.requires.count_le_max_edges)) c.loop-x.invariant.1 c.one_further-reached.ensures.0 c.one_further-reached.ensures.1,
-  c.loop-x.invariant.2 ∙ edge-passed _ _ _ _ _ _ c.loop-x-test.true c.edge-id.ensures _ c.edge_of-found.ensures c.found-1.given.1 c.goes_on.ensures c.if-not-goes_on.false c.one_further-reached.ensures.0,
+  c.loop-x.invariant.2 ∙ edge-passed _ _ _ _ _ _ c.loop-x-test.true c.edge-id.ensures _ c.edge_of-found.ensures c.in-Edge.is c.goes_on.ensures c.if-not-goes_on.false c.one_further-reached.ensures.0,
+)
 
 pub arrives-requires : goal.arrives-requires
-arrives-requires c = c.requires.1
+arrives-requires c = record { given_len = c.requires.given_len; count_le_max_edges = c.requires.count_le_max_edges; }
 
 pub returns : goal.returns
 unfolding begun

@@ -1,7 +1,7 @@
 -- `peer_edge` meets its contract.
+use borrow.Author.Tests.{not-true, not-false}
 use native.Mathlib.Omega.{arith}
 use mathlib.Core.Path.{◌∙◌}
-use borrow.Author.Tests.{not-true, not-false}
 use Rattle.graph.specs.Lookup.{found_edges}
 use Rattle.graph.proofs.OpenedReads.{leaf-read, ready-apart}
 use Rattle.graph.proofs.IdentityLaws.{past-peers}
@@ -26,7 +26,7 @@ pub returns-then-not-id : goal.returns-then-not-id
 returns-then-not-id c =
     let p = c.requires in
     c.peer_up.ensures
-    ∙ peer-back c.args.book.now c.args.id p.position_value (ready-apart _ _ p.filled.ready _ p.filled.below) p.filled.count p.shortcut_lt_n p.peer_nonzero c.if-not-id.true
+    ∙ peer-back c.args.book.now c.args.id p.position_value (ready-apart _ _ p.filled.ready _ p.filled.below) p.filled.count p.shortcut_lt_n p.peer_nonzero (not-true _ c.if-not-id.true)
 
 pub overflow_sub-q-2 : goal.overflow_sub-q-2
 overflow_sub-q-2 c = omega (arith, c.requires.peer_nonzero)
@@ -42,7 +42,7 @@ pub returns-then-find_peer-q : goal.returns-then-find_peer-q
 unfolding found_edges
 returns-then-find_peer-q c =
     let p = c.requires in
-    peer-other c.args.book.now c.args.id p.position_value (ready-apart _ _ p.filled.ready _ p.filled.below) p.filled.count p.shortcut_lt_n p.peer_nonzero c.if-not-id.false
+    peer-other c.args.book.now c.args.id p.position_value (ready-apart _ _ p.filled.ready _ p.filled.below) p.filled.count p.shortcut_lt_n p.peer_nonzero (not-false _ c.if-not-id.false)
     c.link_at-link.result c.link_at-link.ensures c.find_peer.ensures c.if-find_peer-q.true
 
 pub overflow_sub-n : goal.overflow_sub-n
@@ -61,5 +61,5 @@ pub returns : goal.returns
 unfolding found_edges
 returns c =
     let p = c.requires in
-    peer-there c.args.book.now c.args.id p.position_value (ready-apart _ _ p.filled.ready _ p.filled.below) p.filled.count p.shortcut_lt_n p.peer_nonzero c.if-not-id.false
+    peer-there c.args.book.now c.args.id p.position_value (ready-apart _ _ p.filled.ready _ p.filled.below) p.filled.count p.shortcut_lt_n p.peer_nonzero (not-false _ c.if-not-id.false)
     c.link_at-link.result c.link_at-link.ensures c.find_peer.ensures c.if-find_peer-q.false (leaf-read _ p.filled.count c.as_at-leaf.ensures)

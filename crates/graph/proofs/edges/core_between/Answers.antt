@@ -19,12 +19,12 @@ unfolding found_edges
 returns-then-joins c =
     let p = c.requires in
     ap (λ x. x ∷ []) c.edge_of_core.ensures
-    ∙ core-made c.args.book.now c.args.k p.k_value p.filled.count p.filled.some c.v-1.given.1
+    ∙ core-made c.args.book.now c.args.k p.k_value p.filled.count p.filled.some c.in-AS.is
     c.as_at.ensures p.last_value _ c.joins.ensures c.if-joins.true c.same_as.ensures
 
 pub returns : goal.returns
 unfolding found_edges
 returns c =
     let p = c.requires in
-    core-none c.args.book.now c.args.k p.k_value p.filled.count p.filled.some c.v-1.given.1
+    core-none c.args.book.now c.args.k p.k_value p.filled.count p.filled.some c.in-AS.is
     c.as_at.ensures p.last_value _ c.joins.ensures c.if-joins.false

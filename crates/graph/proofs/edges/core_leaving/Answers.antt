@@ -20,20 +20,20 @@ pub returns-then-same_as : goal.returns-then-same_as
 unfolding found_edges
 returns-then-same_as c =
     ap (λ x. x ∷ []) c.edge_of_core.ensures
-    ∙ leaving-first c.args.book.now c.args.k c.requires.k_value c.count_of-n.ensures.0 (omega arith) c.v-1.given.1
+    ∙ leaving-first c.args.book.now c.args.k c.requires.k_value c.count_of-n.ensures.0 (omega arith) c.in-AS.is
     c.as_at-first.ensures (leaf-read _ c.count_of-n.ensures.0 c.as_at-last.ensures) c.same_as.ensures c.if-same_as.true
 
 pub returns-then-same_as-2 : goal.returns-then-same_as-2
 unfolding found_edges
 returns-then-same_as-2 c =
     ap (λ x. x ∷ []) c.edge_of_core-then-same_as-2.ensures
-    ∙ leaving-last c.args.book.now c.args.k c.requires.k_value c.count_of-n.ensures.0 (omega arith) c.v-1.given.1
+    ∙ leaving-last c.args.book.now c.args.k c.requires.k_value c.count_of-n.ensures.0 (omega arith) c.in-AS.is
     c.as_at-first.ensures (leaf-read _ c.count_of-n.ensures.0 c.as_at-last.ensures) c.same_as.ensures c.if-same_as.false
     c.same_as-2.ensures c.if-same_as-2.true
 
 pub returns : goal.returns
 unfolding found_edges
 returns c =
-    leaving-none c.args.book.now c.args.k c.requires.k_value c.count_of-n.ensures.0 (omega arith) c.v-1.given.1
+    leaving-none c.args.book.now c.args.k c.requires.k_value c.count_of-n.ensures.0 (omega arith) c.in-AS.is
     c.as_at-first.ensures (leaf-read _ c.count_of-n.ensures.0 c.as_at-last.ensures) c.same_as.ensures c.if-same_as.false
     c.same_as-2.ensures c.if-same_as-2.false

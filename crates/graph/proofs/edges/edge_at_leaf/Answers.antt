@@ -9,14 +9,14 @@ edge_between_ases-requires c = let p = c.requires in record { ready = p.filled.r
 
 pub returns-then-not-same_as : goal.returns-then-not-same_as
 returns-then-not-same_as c = let p = c.requires in
-    join-other _ p.k_value p.filled.count _ _ _ p.leaf_value _ c.same_as.ensures c.v-in-Peering-1.given.1 c.if-not-same_as.true c.none_found.ensures
+    join-other _ p.k_value p.filled.count _ _ _ p.leaf_value _ c.same_as.ensures c.in-Peering.is c.if-not-same_as.true c.none_found.ensures
 
 pub link_edge_found-requires : goal.link_edge_found-requires
 link_edge_found-requires c = let p = c.requires in record { filled = p.filled; k_value = p.k_value; }
 
 pub returns-in-AS : goal.returns-in-AS
-returns-in-AS c = whole-at _ _ _ _ c.v-1.given.1 c.edge_between_ases.ensures
+returns-in-AS c = whole-at _ _ _ _ c.in-AS.is c.edge_between_ases.ensures
 
 pub returns-else-not-same_as : goal.returns-else-not-same_as
 returns-else-not-same_as c = let p = c.requires in
-    join-link _ p.k_value p.filled.count _ _ _ p.leaf_value _ c.same_as.ensures c.v-in-Peering-1.given.1 (ready-apart _ _ p.filled.ready _ p.filled.below) c.if-not-same_as.false c.link_edge_found.ensures
+    join-link _ p.k_value p.filled.count _ _ _ p.leaf_value _ c.same_as.ensures c.in-Peering.is (ready-apart _ _ p.filled.ready _ p.filled.below) c.if-not-same_as.false c.link_edge_found.ensures

@@ -1,9 +1,9 @@
 -- The loop: no equal stands below j.
 use Prim.Native.Nat.{◌-◌}
 use native.Mathlib.Omega.{arith}
-use mathlib.Core.Logic.{⊎_elim}
 use Rattle.graph.proofs.FirstOfEqualsLaws.{head-differs, entry-differs}
 use Rattle.graph.proofs.first_of_equals.next_alike.Goals as goal
+use Rattle.graph.proofs.first_of_equals.next_alike.Goals.{then-head_word-word+else-entry_word-last, else-head_word-word}
 
 pub loop-j-init : goal.loop-j-init
 loop-j-init c = (omega arith, c.requires.none_below)
@@ -23,10 +23,10 @@ loop-j-preserved c =
     let n = c.loop-j.invariant.1 in
     let l = c.loop-j-test.true in (
       omega arith,
-      ⊎_elim
-          (λ x. entry-differs n l _ p.ready p.end_bound x.1.ensures p.word_value.1 x.2.left)
-          (λ x. head-differs n l _ p.ready p.end_bound c.head_word.ensures p.word_value.0 x.left)
-          c.if-head_word-word.branch,
+      elim c.if-head_word-word.branch [
+          then-head_word-word+else-entry_word-last w ↦ entry-differs n l _ p.ready p.end_bound w.entry_word.ensures p.word_value.1 w.if-entry_word-last.false
+        | else-head_word-word w ↦ head-differs n l _ p.ready p.end_bound c.head_word.ensures p.word_value.0 w.if-head_word-word.false
+      ],
     )
 
 pub returns : goal.returns

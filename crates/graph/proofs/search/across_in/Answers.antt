@@ -10,13 +10,13 @@ core_leaving-found-requires c =
 
 pub across_with-requires : goal.across_with-requires
 across_with-requires c =
-    let p = c.requires in record { prepared = p.prepared; f_value = core-ends _ _ _ _ _ (omega arith) c.core_leaving-found.ensures c.found-1.given.1; room = p.room; }
+    let p = c.requires in record { prepared = p.prepared; f_value = core-ends _ _ _ _ _ (omega arith) c.core_leaving-found.ensures c.in-Edge.is; room = p.room; }
 
 pub returns-in-Edge : goal.returns-in-Edge
 returns-in-Edge c =
     let p = c.requires in
     pushes-as c.across_with.ensures
-    (across-found _ _ _ _ _ _ (omega arith) p.core_value c.core_leaving-found.ensures c.found-1.given.1)
+    (across-found _ _ _ _ _ _ (omega arith) p.core_value c.core_leaving-found.ensures c.in-Edge.is)
 
 pub returns-in-Nothing : goal.returns-in-Nothing
 returns-in-Nothing c =

@@ -1,13 +1,13 @@
 -- The loop: what is pushed so far, and what the positions from k on give.
 use Prim.Native.Nat.{◌-◌}
 use native.Mathlib.Omega.{arith}
-use mathlib.Core.Logic.{⊎_elim}
 use mathlib.Core.Path.{refl, ap}
 use lib.ListN.{length}
 use Rattle.graph.proofs.PushedTurns.{going-begin, going_end, going-full, turn-push, turn-pass}
 use Rattle.graph.proofs.SearchTurns.{over-start, start_first, start_none}
 use Rattle.graph.proofs.SearchLaws.{over-turn, over_skip, over-end}
 use Rattle.graph.proofs.search.all_chains.Goals as goal
+use Rattle.graph.proofs.search.all_chains.Goals.{then-plan-k-gt0, else-plan-k-gt0}
 
 pub loop-k-init : goal.loop-k-init
 loop-k-init c = (omega arith, refl, going-begin (omega arith) (over-start _ _ _))
@@ -25,11 +25,14 @@ loop-k-preserved c =
     let p = c.requires.prepared in
     let l = c.loop-k in (
       omega arith,
-      ⊎_elim (λ w. omega (arith, ap length w.5)) (λ w. omega (arith, ap length w.1)) c.if-plan-k-gt0.branch,
-      ⊎_elim
-          (λ w. turn-push l.invariant.2 (over-turn _ _ _ _ (omega arith) (start_first _ _ _ (p.planned.starts l.k (omega arith) (omega arith)) (omega arith))) w.2.ensures w.6 w.5)
-          (λ w. turn-pass l.invariant.2 (over_skip _ _ _ _ (omega arith) (λ t. start_none _ _ _ _ (p.planned.starts l.k (omega arith) (omega arith)) (omega arith) t)) w.2 w.1)
-          c.if-plan-k-gt0.branch,
+      elim c.if-plan-k-gt0.branch [ then-plan-k-gt0 w ↦ omega (arith, ap length w.out-is) | else-plan-k-gt0 w ↦ omega (arith, ap length w.out-is) ],
+      elim c.if-plan-k-gt0.branch [
+          then-plan-k-gt0 w ↦
+            turn-push l.invariant.2 (over-turn _ _ _ _ (omega arith) (start_first _ _ _ (p.planned.starts l.k (omega arith) (omega arith)) (omega arith)))
+              w.chains_in-n.ensures w.n-is w.out-is
+        | else-plan-k-gt0 w ↦
+            turn-pass l.invariant.2 (over_skip _ _ _ _ (omega arith) (λ t. start_none _ _ _ _ (p.planned.starts l.k (omega arith) (omega arith)) (omega arith) t)) w.n-is w.out-is
+      ],
     )
 
 pub returns : goal.returns

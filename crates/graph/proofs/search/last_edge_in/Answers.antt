@@ -1,6 +1,6 @@
 -- A last edge is pushed where one is found.
-use native.Mathlib.Omega.{arith}
 use borrow.Author.Tests.{not-true, not-false}
+use native.Mathlib.Omega.{arith}
 use Rattle.graph.specs.declared.search.Before.TheVariants.{Link, One, Two}
 use Rattle.graph.proofs.PushedTurns.{pushes-as, pushes-none}
 use Rattle.graph.proofs.EdgeFoundLaws.{none-whole, edge-whole}
@@ -11,16 +11,16 @@ pub edge_from-j-requires : goal.edge_from-j-requires
 edge_from-j-requires c = let p = c.requires in record { ready = p.ready; book_bound = p.book_bound; fact = p.fact; }
 
 pub returns-then-not-j : goal.returns-then-not-j
-returns-then-not-j c = pushes-none (omega arith) (last-edge-missing _ _ _ _ _ _ c.requires.book_bound.0 (none-whole _ _ _ _ c.edge_from-j.ensures c.if-not-j.true))
+returns-then-not-j c = pushes-none (omega arith) (last-edge-missing _ _ _ _ _ _ c.requires.book_bound.0 (none-whole _ _ _ _ c.edge_from-j.ensures (not-true _ c.if-not-j.true)))
 
 pub returns-in-Link : goal.returns-in-Link
 returns-in-Link c = pushes-as c.push_two.ensures
-    (last-edge-found _ _ _ _ _ _ c.requires.book_bound.0 Link c.in-Link.is (edge-whole _ _ _ _ c.edge_from-j.ensures c.if-not-j.false c.whole_edge-g.ensures))
+    (last-edge-found _ _ _ _ _ _ c.requires.book_bound.0 Link c.in-Link.is (edge-whole _ _ _ _ c.edge_from-j.ensures (not-false _ c.if-not-j.false) c.whole_edge-g.ensures))
 
 pub returns-in-One : goal.returns-in-One
 returns-in-One c = pushes-as c.push_two-in-One.ensures
-    (last-edge-found _ _ _ _ _ _ c.requires.book_bound.0 One c.in-One.is (edge-whole _ _ _ _ c.edge_from-j.ensures c.if-not-j.false c.whole_edge-g.ensures))
+    (last-edge-found _ _ _ _ _ _ c.requires.book_bound.0 One c.in-One.is (edge-whole _ _ _ _ c.edge_from-j.ensures (not-false _ c.if-not-j.false) c.whole_edge-g.ensures))
 
 pub returns-in-Two : goal.returns-in-Two
 returns-in-Two c = pushes-as c.push_three.ensures
-    (last-edge-found _ _ _ _ _ _ c.requires.book_bound.0 Two c.in-Two.is (edge-whole _ _ _ _ c.edge_from-j.ensures c.if-not-j.false c.whole_edge-g.ensures))
+    (last-edge-found _ _ _ _ _ _ c.requires.book_bound.0 Two c.in-Two.is (edge-whole _ _ _ _ c.edge_from-j.ensures (not-false _ c.if-not-j.false) c.whole_edge-g.ensures))

@@ -24,6 +24,7 @@ loop-i-preserved c = (
   rw (c.mac_beta_step-id.ensures, c.mac.ensures)
       (id-more _ _ _ _ _ c.offset-at.ensures.0 (omega (arith, c.stop_from-stop.ensures.1, c.entry_of.ensures.1, c.entry_count-n.ensures.0)) c.loop-i.invariant.0),
   omega arith,
+)
 
 pub returns : goal.returns
 returns c =

@@ -5,8 +5,6 @@ use Rattle.spec.specs.Assembly.{id_below, segment_of}
 use Rattle.path.specs.Edges.{edge_by}
 use Rattle.path.proofs.edge.segment_id.Given as goal
 
-)
-
 abbrev pub invariant-loop-i : goal.invariant-loop-i
 invariant-loop-i l = (l.id ≡ id_below (segment_of l.book (edge_by l.e)) l.i) × (l.i ≤ l.stop)
 

@@ -4,10 +4,6 @@ use mathlib.Core.Path.{sym, ◌∙◌}
 use Rattle.path.proofs.Showing.{link-wrote, own-wrote}
 use Rattle.path.proofs.entry.put_hop.Goals as goal
 
-)
-
-)
-
 pub link_offset-from-requires : goal.link_offset-from-requires
 link_offset-from-requires c = record { at_bound = omega arith; peer_nonzero = (c.requires.stands_at.link (sym c.is_peer_hop.ensures ∙ c.if-is_peer_hop.true)).some; }
 
@@ -19,9 +15,11 @@ returns-then-is_peer_hop c = (
   link-wrote _ (λ i. (c.type_inv.book i).fits) _ _ _ c.requires.stands_at _ _ _ (sym c.is_peer_hop.ensures ∙ c.if-is_peer_hop.true)
       (rw c.link_offset-from.ensures.0 at c.put_peer_hop.ensures),
   omega arith,
+)
 
 pub returns : goal.returns
 returns c = (
   own-wrote _ (λ i. (c.type_inv.book i).fits) _ _ _ c.requires.stands_at _ _ _ (sym c.is_peer_hop.ensures ∙ c.if-is_peer_hop.false)
       c.put_own_hop.ensures,
   omega arith,
+)

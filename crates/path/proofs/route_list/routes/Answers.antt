@@ -6,21 +6,21 @@ use Rattle.path.proofs.route_list.routes.Goals as goal
 
 pub keep_by_length-kept-requires : goal.keep_by_length-kept-requires
 keep_by_length-kept-requires c =
-    let w = counted _ _ _ _ _ _ c.list-answer.ensures _ c.answer-1.given.1 in record { ready = table-ready _ _ w.ok c.«open».ensures.1; n_in_bounds = (w.room, w.most); all_of_book = all-of-book _ _ _ _ _ _ w; }
+    let w = counted _ _ _ _ _ _ c.list-answer.ensures _ c.in-Count.is in record { ready = table-ready _ _ w.ok c.«open».ensures.1; n_in_bounds = (w.room, w.most); all_of_book = all-of-book _ _ _ _ _ _ w; }
 
 pub overflow_mul-kept : goal.overflow_mul-kept
-overflow_mul-kept c = let w = counted _ _ _ _ _ _ c.list-answer.ensures _ c.answer-1.given.1 in record { fits = omega (arith, w.most, c.keep_by_length-kept.ensures.few) }
+overflow_mul-kept c = let w = counted _ _ _ _ _ _ c.list-answer.ensures _ c.in-Count.is in record { fits = omega (arith, w.most, c.keep_by_length-kept.ensures.few) }
 
 pub overflow_mul-n : goal.overflow_mul-n
-overflow_mul-n c = let w = counted _ _ _ _ _ _ c.list-answer.ensures _ c.answer-1.given.1 in record { fits = omega (arith, w.most) }
+overflow_mul-n c = let w = counted _ _ _ _ _ _ c.list-answer.ensures _ c.in-Count.is in record { fits = omega (arith, w.most) }
 
 pub clear-requires : goal.clear-requires
-clear-requires c = let w = counted _ _ _ _ _ _ c.list-answer.ensures _ c.answer-1.given.1 in (omega (arith, c.keep_by_length-kept.ensures.few), omega (arith, w.room))
+clear-requires c = let w = counted _ _ _ _ _ _ c.list-answer.ensures _ c.in-Count.is in (omega (arith, c.keep_by_length-kept.ensures.few), omega (arith, w.room))
 
 pub returns-in-Count : goal.returns-in-Count
 returns-in-Count c =
-    let w = counted _ _ _ _ _ _ c.list-answer.ensures _ c.answer-1.given.1 in
+    let w = counted _ _ _ _ _ _ c.list-answer.ensures _ c.in-Count.is in
     routes-counted _ _ _ _ _ _ w _ _ _ c.keep_by_length-kept.ensures (omega arith) c.clear.ensures
 
 pub returns-in-Refused : goal.returns-in-Refused
-returns-in-Refused c = refused-same _ _ _ _ _ _ c.list-answer.ensures _ c.answer-in-Refused-1.given.1
+returns-in-Refused c = refused-same _ _ _ _ _ _ c.list-answer.ensures _ c.in-Refused.is

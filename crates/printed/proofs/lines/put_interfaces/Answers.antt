@@ -8,8 +8,6 @@ use Rattle.printed.specs.Lines.{interface_text, lines_to}
 use Rattle.printed.proofs.Rows.{lines_none, lines_more}
 use Rattle.printed.proofs.lines.put_interfaces.Goals as goal
 
-)
-
 pub loop-k-init : goal.loop-k-init
 loop-k-init c = (lines_none _ _ _, omega arith, omega arith, refl)
 
@@ -20,6 +18,7 @@ loop-k-preserved c = (
   omega arith,
   omega arith,
   omega arith,
+)
 
 pub shape_of-out : goal.shape_of-out
 shape_of-out c = c.loop-k.invariant.3

@@ -2,10 +2,10 @@
 use Prim.Native.Nat.{◌-◌}
 use native.Mathlib.Omega.{arith}
 use mathlib.Core.Path.{◌≡◌, sym, ap, ◌∙◌}
-use mathlib.Core.Logic.{⊎_elim}
 use Rattle.printed.specs.Pieces.{paths_to}
 use Rattle.printed.proofs.Inputs.{paths-none, paths-more, paths-same}
 use Rattle.printed.proofs.slots.count_paths.Goals as goal
+use Rattle.printed.proofs.slots.count_paths.Goals.{then-has_path, else-has_path}
 
 pub loop-k-init : goal.loop-k-init
 loop-k-init c = (paths-none _ _, omega arith, omega arith)
@@ -15,10 +15,10 @@ has_path-requires c = record { ends_size_in_bounds = c.requires.ends_size_in_bou
 
 pub loop-k-preserved : goal.loop-k-preserved
 loop-k-preserved c =
-    ⊎_elim
-    (λ w. (w.1 ∙ paths-more _ _ _ _ c.loop-k.invariant.0 (sym w.0.taken ∙ c.has_path.ensures), omega arith, omega arith))
-    (λ w. (w.1 ∙ paths-same _ _ _ _ c.loop-k.invariant.0 (sym w.0.left ∙ c.has_path.ensures), omega arith, omega arith))
-    c.if-has_path.branch
+    elim c.if-has_path.branch [
+        then-has_path w ↦ (w.paths-is ∙ paths-more _ _ _ _ c.loop-k.invariant.0 (sym w.if-has_path.true ∙ c.has_path.ensures), omega arith, omega arith)
+      | else-has_path w ↦ (w.paths-is ∙ paths-same _ _ _ _ c.loop-k.invariant.0 (sym w.if-has_path.false ∙ c.has_path.ensures), omega arith, omega arith)
+    ]
 
 pub returns : goal.returns
 returns c =

@@ -23,6 +23,7 @@ loop-i-preserved c = (
       ∙ c.loop-i.invariant.0,
   omega arith,
   omega arith,
+)
 
 pub shape_of-out : goal.shape_of-out
 shape_of-out c = c.loop-i.invariant.2

@@ -1,6 +1,5 @@
 -- `lengths_below` meets its contract. The loop's invariant: `sum` is the length of the bodies before i.
 use mathlib.Core.Path.{◌≡◌}
-use Prim.Native.Nat.{◌-◌}
 use native.Mathlib.Omega.{arith}
 use Rattle.spec.specs.Book.{lengths_below}
 use Rattle.segment.proofs.Positions.{lengths-more}

@@ -1,5 +1,6 @@
 -- `sha256::Digest::rounds` meets its contract. The loops' invariants: the words before the next one are those of the schedule, and the
-use Rattle.std.proofs.Common.{◌≡◌, ℕ, zero, suc, ◌+◌, ◌-◌, ◌<◌, ◌≤◌, List, length, get_or, take, set, sym, refl, ap, ◌∙◌, ap₂, add-one, arith, length-set, take_all, get_or-set_other, get_or-take}
+-- variables are those after t rounds over the words there are; t is even.
+use Rattle.std.proofs.Common.{◌≡◌, ℕ, zero, suc, ◌+◌, ◌<◌, ◌≤◌, List, length, get_or, take, set, sym, refl, ap, ◌∙◌, ap₂, add-one, arith, length-set, take_all, get_or-set_other, get_or-take}
 use Rattle.sha256.specs.declared.Digest.{Digest}
 use Rattle.sha256.specs.Words.{next}
 use Rattle.sha256.specs.Constants.{K}

@@ -1,4 +1,5 @@
 -- `sha256::Digest::rounds` meets its contract. The loops' invariants: the words before the next one are those of the schedule, and the
+-- variables are those after t rounds over the words there are; t is even.
 use Rattle.std.proofs.Common.{◌≡◌, ◌+◌, ◌-◌, ◌%◌, ◌≤◌, length, take}
 use Rattle.sha256.specs.declared.Digest.{Digest}
 use Rattle.sha256.specs.Hash.{schedule, rounds}
