@@ -1,6 +1,6 @@
-# make run        prints the list of the worked example, by a program compiled without its proofs where no proved one is there
-# make prove      proves every crate, runs every program, and leaves them in target/bin
-# make lib        proves crate combinator and writes build/libcombinator.a and the shared library
+# make run        prints the list of the worked example, by the program as `rt try` runs it, without its proofs, where no proved one is there
+# make prove      proves every crate, runs every program, and leaves each in its crate's folder out
+# make lib        proves crate combinator_c and writes build/libcombinator.a and the shared library
 # make shared     the shared library alone, of the archive that is there
 # make test       the gate
 # make compare    the library against the Rust, on generated books (oracle/README.md): COUNT=24000 SEED=1
@@ -35,7 +35,8 @@ STRICT = -std=c99 -D_GNU_SOURCE -Wall -Wextra -Wpedantic -Werror -Iinclude
 SANITIZE = -fsanitize=address,undefined -fno-sanitize-recover=all
 DRIVER = main batch replay fuzz fuzz_wire bench scale stack build common model
 
-PROGRAMS = target/bin/list $(wildcard tools/book)
+LIST = crates/list/out/list
+PROGRAMS = $(LIST) $(wildcard tools/book)
 MODULES = $(wildcard tools/booktext/*.py)
 PAGES = $(wildcard man/*.[1-8])
 HEADERS = $(wildcard include/*.h)
@@ -45,12 +46,15 @@ PYTHON = $(wildcard bindings/python/combinator.py)
 .PHONY: lib shared run prove test compare bench scale fuzz install uninstall clean FORCE
 .SECONDARY:
 
+# With OVER=ci what is below the crate is not proved again, but taken as a run of `rt ci` has just left it.
 lib:
-	@tools/progress rt staticlib combinator
-	@tools/align target/staticlib/libcombinator.a build/libcombinator.a
+	@$(if $(filter ci,$(OVER)),tools/archive,tools/progress rt lib combinator_c)
+	@mkdir -p build
+	@tools/align crates/combinator_c/out/libcombinator_c.a build/libcombinator.a
 	@$(MAKE) -s shared
 
 # The whole archive, with the header's functions for others to link; without the compiler's start files, which have writable data.
+# Its other names are no symbolic links: `rt ci` refuses those anywhere in a checkout.
 MAJOR = $(firstword $(subst ., ,$(VERSION)))
 SONAME = libcombinator.so.$(MAJOR)
 SHARED = libcombinator.so.$(VERSION)
@@ -59,28 +63,26 @@ build/$(SHARED): build/libcombinator.a include/combinator.h tools/exports Makefi
 	tools/exports --map > build/exports.map
 	$(CC) -shared -nostartfiles -Wl,-soname,$(SONAME) -Wl,--version-script=build/exports.map -Wl,-z,defs,-z,now,-z,relro,-z,text,-z,noexecstack \
 	    -Wl,--whole-archive $< -Wl,--no-whole-archive -o $@
-	ln -sf $(SHARED) build/$(SONAME)
-	ln -sf $(SONAME) build/libcombinator.so
+	ln -f $@ build/$(SONAME)
+	ln -f $@ build/libcombinator.so
 
-# Only where they are missing; `make lib` and `rt check list` build them anew.
+# Only where they are missing; `make lib` and `make prove` build them anew.
 build/libcombinator.a:
 	$(MAKE) lib
-target/bin/list:
-	@tools/progress rt check list
+$(LIST):
+	@tools/progress rt run list
 
-# The proved program, or one compiled without its proofs, in seconds, which is said each time.
-LIST = $(firstword $(wildcard target/bin/list) build/unproved/list)
-build/unproved/list: $(wildcard crates/*/src/*.rt)
-	@mkdir -p $(@D)
-	@tools/unproved --program list $@
-
+# The proved program; or `rt try`, which runs it without its proofs in some seconds, as is said each time.
 # Source 0001ff0000000111, destination 0001ff0000000110, book.
-run: $(LIST)
-	@$(if $(filter build/%,$(LIST)),echo 'make run: this program was compiled without its proofs; "make prove" proves it and builds it anew' >&2)
-	@{ printf '\000\001\377\000\000\000\001\021\000\001\377\000\000\000\001\020'; cat examples/worked.book; } | $(LIST)
+run:
+	@mkdir -p build/log
+	@{ printf '\000\001\377\000\000\000\001\021\000\001\377\000\000\000\001\020'; cat examples/worked.book; } | \
+	if [ -x $(LIST) ]; then $(LIST); else \
+	    echo 'make run: the program is run without its proofs; "make prove" proves and builds it' >&2; \
+	    log=$$PWD/build/log/try.log; cd crates/list && rt try 2> "$$log" || { cat "$$log" >&2; exit 1; }; fi
 
 prove:
-	@tools/progress rt check
+	@tools/progress rt all test
 
 test:
 	bash .ci/run
@@ -123,7 +125,7 @@ FILLED = sed -e 's|@TO_PREFIX@|$(call relative,$(LIBDIR)/pkgconfig,$(PREFIX))|' 
     -e 's|@SONAME@|$(SONAME)|' -e 's|@SHARED@|$(SHARED)|'
 FOUND_BY = pkgconfig/combinator.pc cmake/combinator/combinator-config.cmake cmake/combinator/combinator-config-version.cmake
 
-install: build/libcombinator.a build/$(SHARED) $(filter target/%,$(PROGRAMS))
+install: build/libcombinator.a build/$(SHARED) $(filter $(LIST),$(PROGRAMS))
 	install -d $(DESTDIR)$(LIBDIR) $(DESTDIR)$(INCLUDEDIR) $(DESTDIR)$(PACKAGEDIR) $(DESTDIR)$(BINDIR)
 	install -m 644 build/libcombinator.a $(DESTDIR)$(LIBDIR)/libcombinator.a
 	install -m 755 build/$(SHARED) $(DESTDIR)$(LIBDIR)/$(SHARED)

@@ -2,7 +2,7 @@
 """Tests of tools/book over the library: that it lists as the program does, the reasons that it gives, its JSON.
 
 tests/python runs them. The library is the one that COMBINATOR_LIBRARY names or that is found.
-The program is target/bin/list where it is built, else tests/model.py stands in for it.
+The program is crates/list/out/list where it is built, else tests/model.py stands in for it.
 """
 import json
 import os

@@ -34,8 +34,8 @@ from booktext.picture import COLOURS, MOST, PAGE, Picture
 
 BOOK = ROOT / "tools" / "book"
 MODEL = HERE / "model.py"
-# The proved program, or the one that `make run` compiles without its proofs.
-LIST = next((p for p in (ROOT / "target" / "bin" / "list", ROOT / "build" / "unproved" / "list") if p.exists()), ROOT / "no list")
+# The proved program.
+LIST = ROOT / "crates" / "list" / "out" / "list"
 
 A, B, C = 0x0001FF0000000111, 0x0001FF0000000110, 0x0001FF0000000112
 

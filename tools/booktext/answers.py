@@ -12,7 +12,7 @@ from typing import List, Optional
 from . import Trouble, printed, routes
 
 TOOLS = Path(__file__).resolve().parents[1]
-PROGRAMS = TOOLS.parent / "target" / "bin" / "list", TOOLS / "list"
+PROGRAMS = TOOLS.parent / "crates" / "list" / "out" / "list", TOOLS / "list"
 
 # The module of the library stands beside `book` where it is installed. `book` works without it, by way of the program.
 sys.path.append(str(TOOLS.parent / "bindings" / "python"))
