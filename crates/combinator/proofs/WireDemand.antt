@@ -19,7 +19,8 @@ use Rattle.spec.specs.declared.PathAnswer.TheVariants.{Path}
 use Rattle.spec.specs.declared.WireAnswer.{WireAnswer}
 use Rattle.spec.specs.declared.WireAnswer.TheVariants.{Count, Refused}
 use Rattle.spec.specs.Limits.{path_size, wire_size}
-use Rattle.spec.specs.Basics.{if◌then◌else◌, same_list}
+use Rattle.std.specs.Prelude.{if◌then◌else◌}
+use Rattle.spec.specs.Basics.{same_list}
 use Rattle.spec.specs.Octets.{Bytes}
 use Rattle.spec.specs.Book.{verdict}
 use Rattle.spec.specs.Chains.{chains, IsChain}

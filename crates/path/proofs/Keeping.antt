@@ -14,7 +14,8 @@ use borrow.Author.Tests.{lt-ltb, le-ltb}
 use Rattle.spec.specs.declared.PathInterface.{PathInterface}
 use Rattle.spec.specs.declared.PathAnswer.TheVariants.{Path, Loop, Bare}
 use Rattle.spec.specs.Limits.{solution_size}
-use Rattle.spec.specs.Basics.{if◌then◌else◌, filter, range, Once}
+use Rattle.std.specs.Prelude.{if◌then◌else◌}
+use Rattle.spec.specs.Basics.{filter, range, Once}
 use Rattle.spec.specs.Assembly.{is_bare, outcome}
 use Rattle.spec.specs.Printed.{is_path}
 use Rattle.spec.specs.Routes.{same_interfaces, longer, hold, hold_all}

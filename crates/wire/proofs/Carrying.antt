@@ -15,7 +15,8 @@ use Rattle.spec.specs.declared.Path.{Path}
 use Rattle.spec.specs.declared.Refusal.TheVariants.{Small, Wire}
 use Rattle.spec.specs.declared.WireAnswer.TheVariants.{Count, Refused}
 use Rattle.spec.specs.Limits.{max_edges, max_entries, path_head_size, info_size, hop_size, path_size, meta_size, wire_info_size, wire_hop_size, wire_size}
-use Rattle.spec.specs.Basics.{if◌then◌else◌, range, padded}
+use Rattle.std.specs.Prelude.{if◌then◌else◌}
+use Rattle.spec.specs.Basics.{range, padded}
 use Rattle.spec.specs.Octets.{Bytes, be16, be32, be64, octets2, octets4}
 use Rattle.spec.specs.Book.{mac_at, isd_asn_at}
 use Rattle.spec.specs.Records.{info_octets, hop_octets, no_interface, path_head, path_head_octets, path_head_in, path_octets}
