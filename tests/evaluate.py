@@ -10,7 +10,7 @@ from functools import partial  # noqa: F401 (the functions made use it)
 from itertools import pairwise, product
 
 sys.setrecursionlimit(100000)
-TOK = re.compile('\\s+|(?P<str>"(?:[^"\\\\]|\\\\.)*")|(?P<num>0x[0-9a-f_]+|\\d+)(?![\\w·])|(?P<proj>\\.(?:«\\w+»|\\w+))|(?P<op>[(){};,])|(?P<name>[^\\s(){};,"]+)')
+TOK = re.compile('\\s+|(?P<str>"(?:[^"\\\\]|\\\\.)*")|(?P<num>0x[0-9a-f_]+|\\d+)(?![\\w·])|(?P<proj>\\.\\w+)|(?P<op>[(){};,.])|(?P<name>(?:Ordering|String)\\.[^\\s(){};,"]+|[^\\s(){};,."]+)')
 FILES = ['Limits', 'Basics', 'Octets', 'Book', 'Edges', 'Chains', 'Order', 'Digests', 'Assembly', 'Records', 'ByRecord', 'Router', 'Answers', 'Printed', 'Routes',
          'Wire']
 
@@ -22,20 +22,14 @@ def toks(t):
     while i < len(t):
         m = TOK.match(t, i)
         if m.lastgroup:
-            v = m.group(m.lastgroup)
-            g = m.lastgroup
-            if g == 'name' and v.endswith('.') and (len(v) > 1):
-                out.append((g, v[:-1]))
-                out.append(('op', '.'))
-            else:
-                out.append((g, v))
+            out.append((m.lastgroup, m.group(m.lastgroup)))
         i = m.end()
     return out
-PREC = {'||': 1, '&&': 2, 'thenBy': 3, 'andThen': 3, '++': 4, '∷': 5, '+': 6, '-': 6, '*': 7, '/': 7, '%': 7, '^': 8}
-RIGHT = {'||', '&&', 'thenBy', 'andThen', '++', '∷', '^'}
+PREC = {'||': 1, '&&': 2, 'then_by': 3, 'and_then': 3, '++': 4, '∷': 5, '+': 6, '-': 6, '*': 7, '/': 7, '%': 7, '^': 8}
+RIGHT = {'||', '&&', 'then_by', 'and_then', '++', '∷', '^'}
 KW = {'then', 'else', 'in', 'if', 'let', '=', ':'}
-NATIVE = {'getD': ('N_getD', 3), 'take': ('N_take', 2), 'drop': ('N_drop', 2), 'length': ('len', 1), 'replicate': ('N_rep', 2), 'map': ('N_map', 2), 'flatMap': ('N_flat', 2), 'reverse': ('N_rev', 1), 'ltb': ('N_ltb', 2), 'eqb': ('N_eqb', 2), 'not': ('N_not', 1), 'min': ('min', 2), 'compare': ('N_cmp', 2), 'bitXor': ('N_xor', 2), 'code': ('N_code', 1), 'suc': ('N_suc', 1), 'isEq': ('N_isEq', 1)}
-CONST = {'true': 'True', 'false': 'False', '[]': '()', 'zero': '0', 'Ordering·lt': '-1', 'Ordering·eq': '0', 'Ordering·gt': '1', 'tt': 'None'}
+NATIVE = {'get_or': ('N_get_or', 3), 'take': ('N_take', 2), 'drop': ('N_drop', 2), 'length': ('len', 1), 'replicate': ('N_rep', 2), 'map': ('N_map', 2), 'flat_map': ('N_flat', 2), 'reverse': ('N_rev', 1), 'ltb': ('N_ltb', 2), 'eqb': ('N_eqb', 2), 'not': ('N_not', 1), 'min': ('min', 2), 'compare': ('N_cmp', 2), 'bit_xor': ('N_xor', 2), 'code': ('N_code', 1), 'suc': ('N_suc', 1), 'compare_is_eq': ('N_is_eq', 1)}
+CONST = {'true': 'True', 'false': 'False', '[]': '()', 'zero': '0', 'Ordering.lt': '-1', 'Ordering.eq': '0', 'Ordering.gt': '1', 'tt': 'None'}
 CONS = {'AS': 1, 'Peering': 4, 'Accepted': 0, 'Refused': 1, 'RefusedBook': 1, 'RefusedList': 1, 'RefusedPath': 1, 'Count': 1, 'Path': 0, 'Loop': 0, 'Bare': 0, **{r: 0 for r in 'Cut Surplus Oversize Crowded Long Peers Misfit Full Small Stranger Twice Wire'.split()}}
 
 
@@ -44,7 +38,7 @@ def cname(c):
     return 'Refused' if c.startswith('Refused') else c
 
 
-def N_getD(l, i, d):
+def N_get_or(l, i, d):
     return l[i] if i < len(l) else d
 
 
@@ -100,7 +94,7 @@ def N_suc(n):
     return n + 1
 
 
-def N_isEq(o):
+def N_is_eq(o):
     return o == 0
 
 
@@ -131,7 +125,7 @@ class P:
             if v in PREC and PREC[v] >= p and (k == 'name'):
                 s.pop()
                 r = s.expr(PREC[v] if v in RIGHT else PREC[v] + 1)
-                l = {'||': f'({l} or {r})', '&&': f'({l} and {r})', 'thenBy': f'({l} or {r})', 'andThen': f'N_and({l},{r})', '++': f'({l}+{r})', '∷': f'(({l},)+{r})', '+': f'({l}+{r})', '-': f'max(0,{l}-{r})', '*': f'({l}*{r})', '/': f'({l}//{r})', '%': f'({l}%{r})', '^': f'({l}**{r})'}[v]
+                l = {'||': f'({l} or {r})', '&&': f'({l} and {r})', 'then_by': f'({l} or {r})', 'and_then': f'N_and({l},{r})', '++': f'({l}+{r})', '∷': f'(({l},)+{r})', '+': f'({l}+{r})', '-': f'max(0,{l}-{r})', '*': f'({l}*{r})', '/': f'({l}//{r})', '%': f'({l}%{r})', '^': f'({l}**{r})'}[v]
             else:
                 return l
 
@@ -179,10 +173,7 @@ class P:
         h = s.pop_head()
         while True:
             k, v = s.peek()
-            if k == 'proj':
-                s.pop()
-                h = ('val', f"{s.close(h)}[{v[1:].strip('«»')!r}]", [])
-            elif k in ('num', 'str') or (k == 'name' and v not in PREC and (v not in KW) and (v != '→')) or v == '(':
+            if k in ('num', 'str') or (k == 'name' and v not in PREC and (v not in KW) and (v != '→')) or v == '(':
                 h[2].append(s.atom())
             elif v == 'record':
                 h[2].append(s.atom())
@@ -194,7 +185,8 @@ class P:
         if k == 'name' and v != 'record' and (v not in s.local) and (v not in CONST):
             if v in s.fns or v in NATIVE or v in CONS:
                 s.pop()
-                return ('fn', v, [])
+                h = ('fn', v, [])
+                return ('val', s.fields(s.close(h)), []) if s.peek()[0] == 'proj' else h
             short = v.split('.')[-1]
             raise Exception('unknown ' + v)
         return ('val', s.atom(), [])
@@ -221,7 +213,16 @@ class P:
             return f"partial({','.join([n] + args)})" if args else n
         return f"{n}({','.join(args[:ar])})({','.join(args[ar:])})"
 
+    def fields(s, e):
+        """What stands tight behind an atom."""
+        while s.peek()[0] == 'proj':
+            e = f'{e}[{s.pop()[1][1:]!r}]'
+        return e
+
     def atom(s):
+        return s.fields(s.whole())
+
+    def whole(s):
         k, v = s.pop()
         if k == 'num':
             return str(int(v.replace('_', ''), 0))
@@ -240,7 +241,7 @@ class P:
             assert s.pop()[1] == '{'
             fs = []
             while s.peek()[1] != '}':
-                n = s.pop()[1].strip('«»')
+                n = s.pop()[1]
                 assert s.pop()[1] == '='
                 fs.append(f'{n!r}:{s.expr()}')
                 if s.peek()[1] == ';':
@@ -353,7 +354,7 @@ def pattern(ts, local, tests, binds, var):
                 pattern(rest, local, tests, binds, f'{var}[{i}]')
                 i += 1
             return
-        if h == 'String._∷_':
+        if h == 'String.◌∷◌':
             tests.append(var)
             binds.append((inner[1][1], f'{var}[0]'))
             binds.append((inner[2][1], f'{var}[1:]'))
@@ -388,7 +389,7 @@ def transpile(texts):
     for f in FILES:
         for mod, params, t in items(strip(texts[f])):
             its.append((None if mod is None else (f, mod), params, t))
-    skip = {'if_then_else_', '_andThen_', '_thenBy_'}
+    skip = {'if◌then◌else◌', '◌and_then◌', '◌then_by◌'}
     parsed = []
     for mod, params, t in its:
         t1 = t.strip()
@@ -402,7 +403,7 @@ def transpile(texts):
         name = t1.split()[0]
         i = t1.index(' =')
         lhs, rhs = (t1[:i], t1[i + 2:])
-        if name in skip or ' andThen ' in lhs or ' thenBy ' in lhs or lhs.startswith('if '):
+        if name in skip or ' and_then ' in lhs or ' then_by ' in lhs or lhs.startswith('if '):
             continue
         ts = toks(lhs)[::-1]
         ts.pop()
@@ -453,37 +454,37 @@ def answer(g, digest, w):
     t = lambda x: tuple(x)
     asn = lambda n: {'0': n}
     if k == 'accept':
-        return [g['f_verdictNumber'](g['f_verdict'](t(w[1])))]
+        return [g['f_verdict_number'](g['f_verdict'](t(w[1])))]
     if k in ('list', 'route'):
         l = g['f_listing' if k == 'list' else 'f_routing'](digest, t(w[1]), asn(w[2]), asn(w[3]), w[4])
-        return [g['f_listNumber'](l['0']), *l['1']]
+        return [g['f_list_number'](l['0']), *l['1']]
     if k == 'print':
         return list(g['f_printed'](digest, t(w[1])))
     if k == 'assemble':
         l = g['f_assembly'](t(w[1]), asn(w[2]), asn(w[3]), t(w[4]), w[5])
-        return [g['f_pathNumber'](l['0']), *l['1']]
+        return [g['f_path_number'](l['0']), *l['1']]
     if k == 'least':
-        return [x for b in w[1] for c in g['f_solutions'](digest, t(b), asn(w[2]), asn(w[3])) for p in [g['f_combinedPath'](t(b), c)] for x in (p['mtu'], p['expiry'])]
+        return [x for b in w[1] for c in g['f_solutions'](digest, t(b), asn(w[2]), asn(w[3])) for p in [g['f_combined_path'](t(b), c)] for x in (p['mtu'], p['expiry'])]
     if k == 'sketch':
-        return [x for b in w[1] for c in g['f_solutions'](digest, t(b), asn(w[2]), asn(w[3])) for p in [g['f_combinedPath'](t(b), c)] for x in [y for i in p['infos'] for y in (i['construction'] + 2 * i['peering'], i['hops'], i['id'])] + [y for h in p['hops'] for y in (h['ingress'], h['egress'])] + [i['id'] for i in p['interfaces']]]
-    path = lambda: g['f_assembly'](t(w[1]), asn(w[2]), asn(w[3]), t(w[4]), g['f_pathSize']())['1']
-    number = lambda l: g['f_wireNumber'](l['0'])
+        return [x for b in w[1] for c in g['f_solutions'](digest, t(b), asn(w[2]), asn(w[3])) for p in [g['f_combined_path'](t(b), c)] for x in [y for i in p['infos'] for y in (i['construction'] + 2 * i['peering'], i['hops'], i['id'])] + [y for h in p['hops'] for y in (h['ingress'], h['egress'])] + [i['id'] for i in p['interfaces']]]
+    path = lambda: g['f_assembly'](t(w[1]), asn(w[2]), asn(w[3]), t(w[4]), g['f_path_size']())['1']
+    number = lambda l: g['f_wire_number'](l['0'])
     if k == 'hold':
-        return list(g['f_routerIds'](path()))
+        return list(g['f_router_ids'](path()))
     if k in ('write', 'read', 'send'):
-        l = g['f_writing'](path(), g['f_wireSize']()) if k == 'send' else g['f_writing' if k == 'write' else 'f_reading'](t(w[1]), w[2])
+        l = g['f_writing'](path(), g['f_wire_size']()) if k == 'send' else g['f_writing' if k == 'write' else 'f_reading'](t(w[1]), w[2])
         return [number(l), *l['1']]
     if k == 'writes':
-        return [number(g['f_writing'](t(x), g['f_wireSize']())) for x in w[1]]
+        return [number(g['f_writing'](t(x), g['f_wire_size']())) for x in w[1]]
     if k == 'reads':
-        return [number(g['f_reading'](t(x), g['f_pathSize']())) for x in w[1]]
+        return [number(g['f_reading'](t(x), g['f_path_size']())) for x in w[1]]
     if k == 'carry':
-        return list(g['f_wireRouterIds'](t(w[1])))
+        return list(g['f_wire_router_ids'](t(w[1])))
     compared = lambda order, digests, pairs: [x for c, d in pairs for x in (g[order](digest, t(w[1]), c, d) + 1, g[digests](digest, t(w[1]), c, d))]
     if k == 'compared':
-        return compared('f_compareRecords', 'f_recordDigests', pairwise(map(t, w[2])))
-    if k == 'comparedAll':
-        return compared('f_compareChains', 'f_chainDigests', product(g['f_solutions'](digest, t(w[1]), asn(w[2]), asn(w[3])), repeat=2))
+        return compared('f_compare_records', 'f_record_digests', pairwise(map(t, w[2])))
+    if k == 'compared_all':
+        return compared('f_compare_chains', 'f_chain_digests', product(g['f_solutions'](digest, t(w[1]), asn(w[2]), asn(w[3])), repeat=2))
     if k == 'room':
         return [g['f_slots'](w[1])]
     if k == 'live':

@@ -15,7 +15,8 @@ use Rattle.spec.specs.declared.Refusal.TheVariants.{Twice}
 use Rattle.spec.specs.declared.Verdict.{Verdict}
 use Rattle.spec.specs.declared.Verdict.TheVariants.{Accepted, Refused}
 use Rattle.spec.specs.Limits.{max_segments, max_entries}
-use Rattle.spec.specs.Basics.{if◌then◌else◌, any, range}
+use Rattle.std.specs.Prelude.{if◌then◌else◌}
+use Rattle.spec.specs.Basics.{any, range}
 use Rattle.spec.specs.Octets.{Bytes, be32, be64}
 use Rattle.spec.specs.Book.{entry_count_at, body_length_at, body_offset, same_as, isd_asn_at, entry_offset, local_at, has_local_of, stands_earlier, passes_twice, entries_verdict, body_verdict, ◌and_then◌}
 use Rattle.spec.proofs.BookLaws.{be32-lt}

@@ -16,7 +16,8 @@ use Rattle.spec.specs.declared.Refusal.TheVariants.{Cut, Surplus, Oversize, Crow
 use Rattle.spec.specs.declared.Verdict.{Verdict}
 use Rattle.spec.specs.declared.Verdict.TheVariants.{Accepted, Refused}
 use Rattle.spec.specs.Limits.{sizes_size, head_size, max_book, max_segments, max_entries, max_peers, entry_size, peer_size, peer_count_offset}
-use Rattle.spec.specs.Basics.{if◌then◌else◌, any, range}
+use Rattle.std.specs.Prelude.{if◌then◌else◌}
+use Rattle.spec.specs.Basics.{any, range}
 use Rattle.spec.specs.Octets.{be16}
 use Rattle.spec.specs.Book.{segment_count, head_offset, body_total, entry_count_at, body_length_at, lengths_below, body_offset, whole_length, sizes_at, peer_count, entry_end, entries_verdict, body_verdict, ◌and_then◌, bodies_verdict, is_long, too_long, verdict}
 use Rattle.spec.proofs.Membership.{not-both}

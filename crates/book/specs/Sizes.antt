@@ -1,11 +1,10 @@
 -- The answer about a book before its bodies, and what the pass over them goes by.
 -- Assumes nothing.
-use Rattle.std.specs.Prelude.{ℕ, ◌+◌, ◌*◌, ◌≤◌, ◌≡◌, false, not, List, [], ◌∷◌, length, ltb, eqb}
+use Rattle.std.specs.Prelude.{ℕ, ◌+◌, ◌*◌, ◌≤◌, ◌≡◌, false, not, List, [], ◌∷◌, length, ltb, eqb, if◌then◌else◌}
 use Rattle.spec.specs.declared.Refusal.TheVariants.{Cut, Surplus, Oversize, Crowded, Long, Misfit}
 use Rattle.spec.specs.declared.Verdict.{Verdict}
 use Rattle.spec.specs.declared.Verdict.TheVariants.{Accepted, Refused}
 use Rattle.spec.specs.Limits.{sizes_size, entry_size, peer_size, max_book, max_segments, max_entries}
-use Rattle.spec.specs.Basics.{if◌then◌else◌}
 use Rattle.spec.specs.Book.{segment_count, body_total, lengths_below, body_offset, whole_length, too_long}
 
 -- the tests of `verdict` in their order, up to the bodies

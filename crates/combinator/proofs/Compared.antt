@@ -1,8 +1,8 @@
 -- The comparison of two solutions beside the list.
 -- Assumes nothing.
-use Prim.Native.Nat.{ℕ, ◌+◌, ◌-◌, ◌*◌, ◌≤◌, ◌<◌, compare}
+use Prim.Native.Nat.{ℕ, ◌-◌, ◌<◌, compare}
 use native.Mathlib.Omega.{arith}
-use mathlib.Core.Path.{◌≡◌, refl, sym, ap, ap₂, ◌∙◌}
+use mathlib.Core.Path.{◌≡◌, refl, ap, ap₂, ◌∙◌}
 use mathlib.Core.Bool.{Bool, true, false}
 use mathlib.Core.List.{List, [], flat_map}
 use lib.ListN.{length, get_or, replicate}
@@ -11,11 +11,10 @@ use borrow.Author.Tests.{ltb-true, ltb-false}
 use Rattle.sha256.specs.Message.{sha256}
 use Rattle.spec.specs.declared.Edge.{Edge}
 use Rattle.spec.specs.declared.Verdict.TheVariants.{Accepted}
-use Rattle.spec.specs.Limits.{max_edges}
 use Rattle.spec.specs.Basics.{padded}
 use Rattle.spec.specs.Octets.{Bytes}
 use Rattle.spec.specs.Book.{verdict}
-use Rattle.spec.specs.Order.{compare_chains, solutions}
+use Rattle.spec.specs.Order.{solutions}
 use Rattle.spec.specs.Records.{solution_octets, slots}
 use Rattle.spec.specs.Answers.{refusals}
 use Rattle.spec.proofs.BookLaws.{accepted}

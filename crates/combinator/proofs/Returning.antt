@@ -19,7 +19,8 @@ use Rattle.spec.specs.declared.PathAnswer.{PathAnswer}
 use Rattle.spec.specs.declared.WireAnswer.{WireAnswer}
 use Rattle.spec.specs.declared.WireAnswer.TheVariants.{Count as WireCount, Refused as RefusedWire}
 use Rattle.spec.specs.Limits.{max_slots}
-use Rattle.spec.specs.Basics.{if◌then◌else◌, padded}
+use Rattle.std.specs.Prelude.{if◌then◌else◌}
+use Rattle.spec.specs.Basics.{padded}
 use Rattle.spec.specs.Book.{verdict}
 use Rattle.spec.specs.Order.{solutions}
 use Rattle.spec.specs.Records.{solution_octets, slots}

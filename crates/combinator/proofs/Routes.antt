@@ -8,8 +8,8 @@ use mathlib.Core.Bool.{Bool, true, false, false≢true}
 use mathlib.Core.List.Memᴰ
 use mathlib.Core.List.Memᴰ.{head}
 use mathlib.Core.List.Memᴰ.{tail}
-use mathlib.Core.List.{List, [], ◌∷◌, ◌++◌, map, Memᴰ as Mem}
-use lib.ListN.{length, replicate}
+use mathlib.Core.List.{List, [], ◌∷◌, map, Memᴰ as Mem}
+use lib.ListN.{length}
 use lib.Dec.{eqb}
 use borrow.Author.Tests.{eq-eqb, ne_eqb}
 use Rattle.sha256.specs.Message.{sha256}
@@ -25,8 +25,8 @@ use Rattle.spec.specs.Octets.{Bytes}
 use Rattle.spec.specs.Book.{verdict}
 use Rattle.spec.specs.Order.{solutions}
 use Rattle.spec.specs.Assembly.{combined_path, outcome}
-use Rattle.spec.specs.Records.{solution_octets, path_octets, path_head, path_head_in, interfaces_in}
-use Rattle.spec.specs.Answers.{Listed, Assembled, refusals, list_number, path_number, listing, assembly}
+use Rattle.spec.specs.Records.{path_octets, path_head, path_head_in, interfaces_in}
+use Rattle.spec.specs.Answers.{Assembled, refusals, list_number, listing}
 use Rattle.spec.specs.Printed.{is_path, has_path}
 use Rattle.spec.specs.Routes.{route_of, lasts_to, with_path, routes, routing}
 use Rattle.spec.specs.RouteDemand.{appearances, Best}

@@ -7,7 +7,7 @@ use mathlib.Core.Bool.{Bool, true, false}
 use mathlib.Core.List.Memᴰ.{head}
 use mathlib.Core.List.Memᴰ.{tail}
 use mathlib.Core.List.{List, [], ◌∷◌, Memᴰ as Mem}
-use lib.ListN.{length, take}
+use lib.ListN.{take}
 use lib.Dec.{ltb}
 use borrow.Author.Tests.{ltb-false}
 use Rattle.spec.specs.declared.IsdAsn.{IsdAsn}
@@ -19,7 +19,8 @@ use Rattle.spec.specs.declared.PathAnswer.TheVariants.{Path}
 use Rattle.spec.specs.declared.WireAnswer.{WireAnswer}
 use Rattle.spec.specs.declared.WireAnswer.TheVariants.{Count, Refused}
 use Rattle.spec.specs.Limits.{path_size, wire_size}
-use Rattle.spec.specs.Basics.{if◌then◌else◌, same_list}
+use Rattle.std.specs.Prelude.{if◌then◌else◌}
+use Rattle.spec.specs.Basics.{same_list}
 use Rattle.spec.specs.Octets.{Bytes}
 use Rattle.spec.specs.Book.{verdict}
 use Rattle.spec.specs.Chains.{chains, IsChain}

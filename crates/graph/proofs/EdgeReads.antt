@@ -11,7 +11,8 @@ use Rattle.spec.specs.declared.IsdAsn.{IsdAsn}
 use Rattle.spec.specs.declared.Vertex.{Vertex}
 use Rattle.spec.specs.declared.Vertex.TheVariants.{AS, Peering}
 use Rattle.spec.specs.declared.Edge.{Edge}
-use Rattle.spec.specs.Basics.{if◌then◌else◌, filter, range}
+use Rattle.std.specs.Prelude.{if◌then◌else◌}
+use Rattle.spec.specs.Basics.{filter, range}
 use Rattle.spec.specs.Book.{same_as, Segment, segment_at}
 use Rattle.spec.specs.Edges.{same_vertex, as_of, leaf_as, in_construction, edge_of}
 use Rattle.spec.proofs.Membership.{true-and, not-both}

@@ -13,7 +13,8 @@ use lib.Dec.{ltb, eqb}
 use borrow.Author.Tests.{ltb-true, ltb-false, lt-ltb, le-ltb, eqb-true}
 use Rattle.spec.specs.declared.Verdict.TheVariants.{Accepted}
 use Rattle.spec.specs.Limits.{sizes_size, head_size, entry_size, peer_size, peer_count_offset, max_segments, max_entries}
-use Rattle.spec.specs.Basics.{if◌then◌else◌, any, range, same_list}
+use Rattle.std.specs.Prelude.{if◌then◌else◌}
+use Rattle.spec.specs.Basics.{any, range, same_list}
 use Rattle.spec.specs.Octets.{be16, be32, be64}
 use Rattle.spec.specs.Book.{Segment, segments, segment_at, cores, segment_count, head_offset, whole_length, timestamp_at, id_at, entry_count_at, body_length_at, body_offset, peer_count, entry_end, entry_offset, verdict}
 use Rattle.spec.specs.Edges.{same_bool, same_segment, is_earlier, is_first}

@@ -16,7 +16,6 @@ use mathlib.Core.List.{List, [], ◌∷◌, reverse, Memᴰ as Mem}
 use lib.ListN.{length}
 use lib.Dec.{ltb, eqb}
 use borrow.Author.Tests.{eqb-true, eqb-false, eq-eqb, ltb-true, ltb-false}
-use Rattle.spec.specs.declared.IsdAsn.{IsdAsn}
 use Rattle.spec.specs.declared.Vertex.{Vertex}
 use Rattle.spec.specs.declared.Vertex.TheVariants.{AS}
 use Rattle.spec.specs.declared.Edge.{Edge}

@@ -18,7 +18,8 @@ use Rattle.spec.specs.declared.IsdAsn.{IsdAsn}
 use Rattle.spec.specs.declared.Vertex.{Vertex}
 use Rattle.spec.specs.declared.Vertex.TheVariants.{AS, Peering}
 use Rattle.spec.specs.declared.Edge.{Edge}
-use Rattle.spec.specs.Basics.{if◌then◌else◌, range, Once}
+use Rattle.std.specs.Prelude.{if◌then◌else◌}
+use Rattle.spec.specs.Basics.{range, Once}
 use Rattle.spec.specs.Book.{same_as, Segment}
 use Rattle.spec.specs.Edges.{same_vertex, as_of, leaf_as, edge_of, insertions, stored_of}
 use Rattle.spec.specs.Loopless.{Apart}

@@ -10,7 +10,8 @@ use lib.ListN.{length}
 use lib.Dec.{ltb}
 use borrow.Author.Tests.{ltb-true, ltb-false, lt-ltb, le-ltb}
 use Rattle.spec.specs.declared.Edge.{Edge}
-use Rattle.spec.specs.Basics.{if◌then◌else◌, any, range}
+use Rattle.std.specs.Prelude.{if◌then◌else◌}
+use Rattle.spec.specs.Basics.{any, range}
 use Rattle.spec.proofs.Membership.{and-true, true-and, not-both}
 use Rattle.spec.proofs.Lists.{flat_map-append, range-suc}
 use Rattle.spec.proofs.OnceLaws.{any-mem}

@@ -15,7 +15,7 @@ use Rattle.spec.specs.declared.Sizes.{Sizes}
 use Rattle.spec.specs.declared.Verdict.{Verdict}
 use Rattle.spec.specs.declared.Verdict.TheVariants.{Accepted}
 use Rattle.spec.specs.Limits.{sizes_size, head_size, entry_size, peer_size, max_segments, max_entries}
-use Rattle.spec.specs.Basics.{if◌then◌else◌}
+use Rattle.std.specs.Prelude.{if◌then◌else◌}
 use Rattle.spec.specs.Octets.{be16}
 use Rattle.spec.specs.Book.{same_as, Segment, segment_at, segment_count, sizes_at, head_offset, whole_length, verdict, entry_count_at, body_offset, isd_asn_at, peer_count, peer_entry_at, peer_offset, entry_offset}
 use Rattle.spec.specs.Edges.{same_vertex, as_of, leaf_as, peer_of}

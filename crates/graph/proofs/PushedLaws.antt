@@ -13,7 +13,7 @@ use lib.Seq.{take_at, drop_at, drop-drop}
 use borrow.Author.Tests.{lt-ltb, le-ltb}
 use Rattle.spec.specs.declared.Edge.{Edge}
 use Rattle.spec.specs.Limits.{max_edges, solution_size}
-use Rattle.spec.specs.Basics.{if◌then◌else◌}
+use Rattle.std.specs.Prelude.{if◌then◌else◌}
 use Rattle.spec.specs.Records.{solution_octets}
 use Rattle.spec.proofs.LengthLaws.{solution-length}
 use Rattle.graph.specs.Pushed.{Slots, put_at, push_record, push_one, pushed}

@@ -19,7 +19,8 @@ use Rattle.spec.specs.declared.Vertex.TheVariants.{AS}
 use Rattle.spec.specs.declared.Edge.{Edge}
 use Rattle.spec.specs.declared.SolutionEdge.{SolutionEdge}
 use Rattle.spec.specs.Limits.{max_edges, solution_size}
-use Rattle.spec.specs.Basics.{if◌then◌else◌, any, range, sum, same_list}
+use Rattle.std.specs.Prelude.{if◌then◌else◌}
+use Rattle.spec.specs.Basics.{any, range, sum, same_list}
 use Rattle.spec.specs.Edges.{same_vertex, stored_edges}
 use Rattle.spec.specs.Chains.{allowed_kinds, Leads, IsChain, chains}
 use Rattle.spec.specs.Order.{cost, weight_of, solution_edge}

@@ -16,7 +16,8 @@ use Rattle.spec.specs.declared.Verdict.{Verdict}
 use Rattle.spec.specs.declared.Verdict.TheVariants.{Accepted, Refused as RefusedBook}
 use Rattle.spec.specs.declared.Refusal.{Refusal}
 use Rattle.spec.specs.Limits.{max_edges, solution_size}
-use Rattle.spec.specs.Basics.{if◌then◌else◌, any, range}
+use Rattle.std.specs.Prelude.{if◌then◌else◌}
+use Rattle.spec.specs.Basics.{any, range}
 use Rattle.spec.specs.Book.{verdict}
 use Rattle.spec.specs.Records.{bit, no_edge, record_edge}
 use Rattle.graph.specs.declared.chains.Reached.{Reached}

@@ -14,7 +14,8 @@ use Rattle.spec.specs.declared.Vertex.TheVariants.{AS}
 use Rattle.spec.specs.declared.Edge.{Edge}
 use Rattle.spec.specs.declared.Verdict.TheVariants.{Accepted}
 use Rattle.spec.specs.Limits.{max_edges}
-use Rattle.spec.specs.Basics.{if◌then◌else◌, filter, range, Once}
+use Rattle.std.specs.Prelude.{if◌then◌else◌}
+use Rattle.spec.specs.Basics.{filter, range, Once}
 use Rattle.spec.specs.Book.{same_as, Segment, segments, segment_at, segment_count, verdict}
 use Rattle.spec.specs.Edges.{same_vertex, insertions, is_first, firsts, stored_of, stored_edges}
 use Rattle.spec.specs.Chains.{IsChain, allowed_kinds, leaves, leaving, beginning, walks, chains}

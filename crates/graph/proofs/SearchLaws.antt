@@ -11,7 +11,8 @@ use Rattle.spec.specs.declared.Vertex.{Vertex}
 use Rattle.spec.specs.declared.Vertex.TheVariants.{AS}
 use Rattle.spec.specs.declared.Edge.{Edge}
 use Rattle.spec.specs.Limits.{max_edges}
-use Rattle.spec.specs.Basics.{if◌then◌else◌, filter, range}
+use Rattle.std.specs.Prelude.{if◌then◌else◌}
+use Rattle.spec.specs.Basics.{filter, range}
 use Rattle.spec.specs.Book.{Segment, segments, segment_at, segment_count}
 use Rattle.spec.specs.Edges.{same_vertex, insertions, is_first, firsts, stored_of, stored_edges}
 use Rattle.spec.specs.Chains.{allowed_kinds, leaves, leaving, beginning, walks}

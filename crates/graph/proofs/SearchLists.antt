@@ -7,7 +7,8 @@ use mathlib.Core.Bool.{Bool, true, false, ◌&&◌}
 use mathlib.Core.List.Memᴰ.{head}
 use mathlib.Core.List.Memᴰ.{tail}
 use mathlib.Core.List.{List, [], ◌∷◌, ◌++◌, map, flat_map, Memᴰ as Mem}
-use Rattle.spec.specs.Basics.{if◌then◌else◌, filter, range}
+use Rattle.std.specs.Prelude.{if◌then◌else◌}
+use Rattle.spec.specs.Basics.{filter, range}
 use Rattle.spec.proofs.Lists.{flat_map-append}
 
 module _ {A : Type 0} (p : A → Bool) where

@@ -12,7 +12,8 @@ use Rattle.spec.specs.declared.IsdAsn.{IsdAsn}
 use Rattle.spec.specs.declared.Vertex.{Vertex}
 use Rattle.spec.specs.declared.Vertex.TheVariants.{AS, Peering}
 use Rattle.spec.specs.declared.Edge.{Edge}
-use Rattle.spec.specs.Basics.{if◌then◌else◌, range}
+use Rattle.std.specs.Prelude.{if◌then◌else◌}
+use Rattle.spec.specs.Basics.{range}
 use Rattle.spec.specs.Book.{same_as, Segment, segments, segment_at, segment_count, cores}
 use Rattle.spec.specs.Edges.{same_vertex, as_of, leaf_as, edge_of, is_first}
 use Rattle.spec.specs.Records.{bit}

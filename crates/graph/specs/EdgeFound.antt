@@ -1,11 +1,10 @@
 -- An edge to an AS of a non-core segment, by what is not known of it before it is found.
 -- Assumes nothing.
-use Rattle.std.specs.Prelude.{ℕ, false, List, [], ◌∷◌}
+use Rattle.std.specs.Prelude.{ℕ, false, List, [], ◌∷◌, if◌then◌else◌}
 use Rattle.spec.specs.declared.IsdAsn.{IsdAsn}
 use Rattle.spec.specs.declared.Vertex.{Vertex}
 use Rattle.spec.specs.declared.Vertex.TheVariants.{AS}
 use Rattle.spec.specs.declared.Edge.{Edge}
-use Rattle.spec.specs.Basics.{if◌then◌else◌}
 use Rattle.graph.specs.declared.edges.EdgeFound.{EdgeFound}
 
 -- the edge of the segment at k from v to w

@@ -1,8 +1,7 @@
 -- The first of equal segments: what is read of a segment before it is compared with another, and marks that equal segments share.
 -- Assumes nothing.
-use Rattle.std.specs.Prelude.{ℕ, ◌+◌, ◌*◌, ◌%◌, ◌≤◌, ◌<◌, ◌≡◌, false, List, get_or}
+use Rattle.std.specs.Prelude.{ℕ, ◌+◌, ◌*◌, ◌%◌, ◌≤◌, ◌<◌, ◌≡◌, false, List, get_or, if◌then◌else◌}
 use Rattle.spec.specs.Limits.{max_entries}
-use Rattle.spec.specs.Basics.{if◌then◌else◌}
 use Rattle.spec.specs.Octets.{be64}
 use Rattle.spec.specs.Book.{Segment, segments, segment_at, head_offset}
 use Rattle.spec.specs.Edges.{same_segment, is_first}

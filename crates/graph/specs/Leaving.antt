@@ -1,12 +1,12 @@
 -- The edges of a segment as the code finds them: between two vertices, and those that leave an AS, entry by entry and at each entry peer by peer.
 -- Assumes nothing.
-use Rattle.std.specs.Prelude.{ℕ, ◌+◌, ◌-◌, Bool, ◌&&◌, ◌||◌, length, ltb, eqb}
+use Rattle.std.specs.Prelude.{ℕ, ◌+◌, ◌-◌, Bool, ◌&&◌, ◌||◌, length, ltb, eqb, if◌then◌else◌}
 use mathlib.Core.List.{List, [], ◌∷◌, ◌++◌, flat_map}
 use Rattle.spec.specs.declared.IsdAsn.{IsdAsn}
 use Rattle.spec.specs.declared.Vertex.{Vertex}
 use Rattle.spec.specs.declared.Vertex.TheVariants.{AS, Peering}
 use Rattle.spec.specs.declared.Edge.{Edge}
-use Rattle.spec.specs.Basics.{if◌then◌else◌, range}
+use Rattle.spec.specs.Basics.{range}
 use Rattle.spec.specs.Book.{same_as, Segment}
 use Rattle.spec.specs.Edges.{same_vertex, entry_of, as_of, leaf_as, peer_of, edge_of}
 use Rattle.graph.specs.declared.vertices.Link.{Link}

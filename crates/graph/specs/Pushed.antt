@@ -1,9 +1,8 @@
 -- The lent buffer as slots that are filled from the front, and a count that stops one past the slots there are.
 -- Assumes nothing.
-use Rattle.std.specs.Prelude.{ℕ, ◌+◌, ◌*◌, ◌≤◌, ◌≡◌, List, [], ◌∷◌, ◌++◌, length, take, drop, ltb}
+use Rattle.std.specs.Prelude.{ℕ, ◌+◌, ◌*◌, ◌≤◌, ◌≡◌, List, [], ◌∷◌, ◌++◌, length, take, drop, ltb, if◌then◌else◌}
 use Rattle.spec.specs.declared.Edge.{Edge}
 use Rattle.spec.specs.Limits.{solution_size}
-use Rattle.spec.specs.Basics.{if◌then◌else◌}
 use Rattle.spec.specs.Records.{solution_octets}
 
 -- the count, and what the buffer holds

@@ -1,6 +1,6 @@
 -- The chain of a record, edge by edge, as the code goes: the edges that the record names, one after the other, and how far they have come.
 -- Assumes nothing.
-use Rattle.std.specs.Prelude.{ℕ, ◌+◌, ◌-◌, ◌*◌, ◌^◌, ◌≤◌, ◌<◌, Bool, true, ◌&&◌, not, replicate, ltb, eqb}
+use Rattle.std.specs.Prelude.{ℕ, ◌+◌, ◌-◌, ◌*◌, ◌^◌, ◌≤◌, ◌<◌, Bool, true, ◌&&◌, not, replicate, ltb, eqb, if◌then◌else◌}
 use mathlib.Core.List.{List, [], ◌∷◌, ◌++◌, map, flat_map}
 use Rattle.spec.specs.declared.IsdAsn.{IsdAsn}
 use Rattle.spec.specs.declared.Vertex.TheVariants.{AS}
@@ -8,7 +8,7 @@ use Rattle.spec.specs.declared.Edge.{Edge}
 use Rattle.spec.specs.declared.SolutionEdge.{SolutionEdge}
 use Rattle.spec.specs.declared.Solution.{Solution}
 use Rattle.spec.specs.Limits.{max_edges}
-use Rattle.spec.specs.Basics.{if◌then◌else◌, any, range, same_list}
+use Rattle.spec.specs.Basics.{any, range, same_list}
 use Rattle.spec.specs.Edges.{same_vertex}
 use Rattle.spec.specs.Records.{bit, no_edge, record_edge}
 use Rattle.graph.specs.declared.chains.Reached.{Reached}

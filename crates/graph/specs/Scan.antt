@@ -1,7 +1,6 @@
 -- The first and the last number of which a test holds, as loops over entries and peers find them.
 -- Assumes nothing.
-use Rattle.std.specs.Prelude.{ℕ, zero, suc, ◌+◌, Bool}
-use Rattle.spec.specs.Basics.{if◌then◌else◌}
+use Rattle.std.specs.Prelude.{ℕ, zero, suc, ◌+◌, Bool, if◌then◌else◌}
 
 module _ (p : ℕ → Bool) where
   -- the first of `left` numbers from i on that passes; the one after them where none does

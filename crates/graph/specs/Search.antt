@@ -1,13 +1,13 @@
 -- The search, chunk by chunk: what each loop of the code adds to the list of chains found so far.
 -- Assumes nothing.
-use Rattle.std.specs.Prelude.{ℕ, zero, suc, ◌+◌, ◌-◌, Bool, true, false}
+use Rattle.std.specs.Prelude.{ℕ, zero, suc, ◌+◌, ◌-◌, Bool, true, false, if◌then◌else◌}
 use mathlib.Core.List.{List, [], ◌∷◌, ◌++◌, map, flat_map}
 use Rattle.spec.specs.declared.IsdAsn.{IsdAsn}
 use Rattle.spec.specs.declared.Vertex.{Vertex}
 use Rattle.spec.specs.declared.Vertex.TheVariants.{AS, Peering}
 use Rattle.spec.specs.declared.Edge.{Edge}
 use Rattle.spec.specs.Limits.{max_edges}
-use Rattle.spec.specs.Basics.{if◌then◌else◌, filter}
+use Rattle.spec.specs.Basics.{filter}
 use Rattle.spec.specs.Book.{same_as, Segment, segments, segment_at, segment_count}
 use Rattle.spec.specs.Edges.{same_vertex, is_first, stored_edges}
 use Rattle.spec.specs.Chains.{allowed_kinds, beginning, walks}

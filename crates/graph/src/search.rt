@@ -1,10 +1,10 @@
 // The search for chains: each chain found is pushed into the lent slots. Every loop stops once the count
 // is past the slots.
-ghost use Rattle.std.specs.Prelude.{◌≡◌, ◌⊎◌, true, false, ◌-◌, ◌≤◌, ◌<◌};
+ghost use Rattle.std.specs.Prelude.{◌≡◌, ◌⊎◌, true, false, ◌-◌, ◌≤◌, ◌<◌, if◌then◌else◌};
 ghost use mathlib.Core.List.{flat_map};
 ghost use Rattle.spec.specs.declared.Vertex.TheVariants.{AS};
 ghost use Rattle.spec.specs.Limits.{max_segments};
-ghost use Rattle.spec.specs.Basics.{if◌then◌else◌, range};
+ghost use Rattle.spec.specs.Basics.{range};
 ghost use Rattle.spec.specs.Book.{segment_at, segment_count, cores};
 ghost use Rattle.graph.specs.declared.search.Before.TheVariants.{Link};
 ghost use Rattle.graph.specs.Lookup.{between, found_edges};

@@ -2,10 +2,7 @@
 -- Assumes nothing.
 use Prim.Native.Nat.{ℕ, ◌≤◌, ◌<◌}
 use native.Mathlib.Omega.{arith}
-use denote.Enum.Declared.{tag_of}
-use types.Run.{OneOf}
 use mathlib.Core.Path.{◌≡◌, refl, sym, ap, ap₂, ◌∙◌, subst}
-use mathlib.Core.Logic.{⊎_elim}
 use mathlib.Core.List.{List, [], ◌∷◌, ◌++◌, map, flat_map, map-map, Memᴰ as Mem}
 use lib.ListN.{length, length-map}
 use Rattle.spec.specs.declared.IsdAsn.{IsdAsn}
@@ -37,7 +34,6 @@ use Rattle.output.specs.Write.{zeroed}
 use Rattle.output.proofs.Writing.{zeroed-all}
 use Rattle.book.specs.Offsets.{open_table}
 use Rattle.book.proofs.Tables.{open-accepted}
-use Rattle.graph.specs.contracts.Chain.{the_type}
 use Rattle.graph.specs.declared.Chain.{Chain}
 use Rattle.graph.specs.declared.Chain.TheVariants.{Refused, Stranger, Edges}
 use Rattle.graph.specs.Recorded.{recorded}

@@ -15,7 +15,8 @@ use Rattle.spec.specs.declared.Path.{Path as PathHead}
 use Rattle.spec.specs.declared.PathAnswer.{PathAnswer}
 use Rattle.spec.specs.declared.PathAnswer.TheVariants.{Path, Loop, Bare}
 use Rattle.spec.specs.Limits.{max_edges, max_entries, path_size, path_head_size, info_size, hop_size}
-use Rattle.spec.specs.Basics.{if◌then◌else◌, range, padded}
+use Rattle.std.specs.Prelude.{if◌then◌else◌}
+use Rattle.spec.specs.Basics.{range, padded}
 use Rattle.spec.specs.Octets.{Bytes, octets2, octets4, octets8}
 use Rattle.spec.specs.Book.{isd_asn_at}
 use Rattle.spec.specs.Assembly.{hop_count, segment_of, info_on, hops_on, interfaces_on, CombinedPath, combined_path, is_loop, is_bare, outcome}

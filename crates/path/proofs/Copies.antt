@@ -4,16 +4,16 @@ use Prim.Native.Nat.{ℕ, ◌+◌, ◌≤◌}
 use native.Mathlib.Nat.{add_assoc}
 use native.Mathlib.Omega.{arith}
 use mathlib.Core.Path.{◌≡◌, refl, sym, ap, ap₂, ◌∙◌}
-use mathlib.Core.List.{List, [], ◌∷◌, ◌++◌, append-nil}
+use mathlib.Core.List.{List, [], ◌∷◌, ◌++◌}
 use lib.ListN.{length, get_or, take, drop, set, length-append, length-drop}
-use lib.Seq.{drop-length, take_all, length-take-le}
+use lib.Seq.{length-take-le}
 use Rattle.spec.specs.Limits.{entry_size, peer_size, hop_size}
 use Rattle.spec.specs.Octets.{Bytes, octets2, octets8}
 use Rattle.spec.specs.Book.{isd_asn_at, as_entry_at, peer_entry_at}
 use Rattle.spec.specs.Records.{hop_octets}
 use Rattle.spec.proofs.OctetLaws.{byte-first, bytes-split, mac-bytes, be16s-bytes, be64-bytes}
 use Rattle.output.specs.Write.{written}
-use Rattle.output.proofs.Writing.{written_one, written-pair, over, passed_on, piece-put}
+use Rattle.output.proofs.Writing.{written_one, written-pair, passed_on, piece-put}
 
 module _ (b : List ℕ) (bytes : Bytes b) where
   -- of a peer the bytes of a hop stand in one piece

@@ -8,14 +8,15 @@ use mathlib.Core.Bool.{Bool, true, false}
 use mathlib.Core.List.Memᴰ.{head}
 use mathlib.Core.List.Memᴰ.{tail}
 use mathlib.Core.List.{List, [], ◌∷◌, ◌++◌, map, Memᴰ as Mem}
-use lib.ListN.{length, get_or, set, take, drop, length-take, length-drop, length-set}
+use lib.ListN.{length, get_or, set, drop, length-take, length-drop, length-set}
 use lib.Seq.{get_or-set_same, get_or-set_other, set-get_or, ext_get_or}
 use borrow.Author.Tests.{lt-ltb, le-ltb}
 use Rattle.spec.specs.declared.PathInterface.{PathInterface}
 use Rattle.spec.specs.declared.PathAnswer.TheVariants.{Path, Loop, Bare}
 use Rattle.spec.specs.Limits.{solution_size}
-use Rattle.spec.specs.Basics.{if◌then◌else◌, filter, range, Once}
-use Rattle.spec.specs.Assembly.{is_loop, is_bare, outcome}
+use Rattle.std.specs.Prelude.{if◌then◌else◌}
+use Rattle.spec.specs.Basics.{filter, range, Once}
+use Rattle.spec.specs.Assembly.{is_bare, outcome}
 use Rattle.spec.specs.Printed.{is_path}
 use Rattle.spec.specs.Routes.{same_interfaces, longer, hold, hold_all}
 use Rattle.spec.proofs.Membership.{mem-map}

@@ -21,7 +21,8 @@ use Rattle.spec.specs.declared.Verdict.TheVariants.{Accepted, Refused as Refused
 use Rattle.spec.specs.declared.ListAnswer.{ListAnswer}
 use Rattle.spec.specs.declared.ListAnswer.TheVariants.{Count, Refused as RefusedList}
 use Rattle.spec.specs.Limits.{solution_size, max_slots, max_edges}
-use Rattle.spec.specs.Basics.{if◌then◌else◌, filter, range, padded}
+use Rattle.std.specs.Prelude.{if◌then◌else◌}
+use Rattle.spec.specs.Basics.{filter, range, padded}
 use Rattle.spec.specs.Book.{verdict}
 use Rattle.spec.specs.Chains.{IsChain}
 use Rattle.spec.specs.Order.{solutions}

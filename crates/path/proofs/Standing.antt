@@ -14,7 +14,7 @@ use Rattle.spec.specs.declared.PeerEntry.{PeerEntry}
 use Rattle.spec.specs.declared.Edge.{Edge}
 use Rattle.spec.specs.declared.Verdict.TheVariants.{Accepted}
 use Rattle.spec.specs.Limits.{sizes_size, head_size, max_entries, max_segments}
-use Rattle.spec.specs.Basics.{if◌then◌else◌}
+use Rattle.std.specs.Prelude.{if◌then◌else◌}
 use Rattle.spec.specs.Octets.{be16, be32}
 use Rattle.spec.specs.Book.{verdict, head_offset, timestamp_at, id_at, entry_count_at, body_offset, entry_offset, peer_count, isd_asn_at, as_entry_at, peer_entry_at, segment_at}
 use Rattle.spec.specs.Edges.{entry_of, as_of, peer_of}

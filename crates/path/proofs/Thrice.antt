@@ -10,7 +10,8 @@ use lib.Dec.{eqb, ltb}
 use borrow.Author.Tests.{eqb-true, eq-eqb, ne_eqb, ltb-true, ltb-false, lt-ltb, le-ltb}
 use Rattle.spec.specs.declared.IsdAsn.{IsdAsn}
 use Rattle.spec.specs.declared.PathInterface.{PathInterface}
-use Rattle.spec.specs.Basics.{if◌then◌else◌, any, filter, range}
+use Rattle.std.specs.Prelude.{if◌then◌else◌}
+use Rattle.spec.specs.Basics.{any, filter, range}
 use Rattle.spec.specs.Octets.{be64}
 use Rattle.spec.specs.Book.{same_as}
 use Rattle.spec.specs.Assembly.{is_of, times_of, is_crowded, is_loop}

@@ -15,7 +15,8 @@ use Rattle.spec.specs.declared.InfoField.{InfoField}
 use Rattle.spec.specs.declared.AsEntry.{AsEntry}
 use Rattle.spec.specs.declared.Edge.{Edge}
 use Rattle.spec.specs.Limits.{info_size, max_time}
-use Rattle.spec.specs.Basics.{if◌then◌else◌, range}
+use Rattle.std.specs.Prelude.{if◌then◌else◌}
+use Rattle.spec.specs.Basics.{range}
 use Rattle.spec.specs.Book.{Segment, mac_at, as_entry_at}
 use Rattle.spec.specs.Assembly.{least, units_of, life, mtus_at, hop_of, hop_count, used_entries, interfaces_at, in_direction, hops_of, interfaces_of, mtus_of, info_of, expiry_of, segment_of, hops_on, interfaces_on, mtus_on, info_on, expiry_on, is_peer_hop, is_peer_edge, at_shortcut, fold_step, fold_macs, id_below, stop_at}
 use Rattle.spec.specs.Records.{hop_octets, info_octets, interface_as_octets, interface_id_octets}

@@ -1,11 +1,10 @@
 -- What a path's record holds of an entry, of an edge and of a chain.
 -- Assumes nothing.
-use Rattle.std.specs.Prelude.{ℕ, ◌+◌, ◌-◌, ◌≡◌, ◌&&◌, ◌||◌, not, eqb}
+use Rattle.std.specs.Prelude.{ℕ, ◌+◌, ◌-◌, ◌≡◌, ◌&&◌, ◌||◌, not, eqb, if◌then◌else◌}
 use mathlib.Core.List.{List, [], ◌∷◌, map, flat_map}
 use Rattle.spec.specs.declared.IsdAsn.{IsdAsn}
 use Rattle.spec.specs.declared.PathInterface.{PathInterface}
 use Rattle.spec.specs.declared.Edge.{Edge}
-use Rattle.spec.specs.Basics.{if◌then◌else◌}
 use Rattle.spec.specs.Octets.{octets2}
 use Rattle.spec.specs.Book.{Segment}
 use Rattle.spec.specs.Edges.{entry_of, peer_of}

@@ -1,9 +1,9 @@
 -- Where an entry of an edge stands in the book, and what a write leaves.
 -- Assumes nothing.
-use Rattle.std.specs.Prelude.{ℕ, ◌+◌, ◌-◌, ◌*◌, ◌<◌, ◌≤◌, ◌≡◌, Bool, true, ◌&&◌, List, ◌++◌, map, length, take, ltb}
+use Rattle.std.specs.Prelude.{ℕ, ◌+◌, ◌-◌, ◌*◌, ◌<◌, ◌≤◌, ◌≡◌, Bool, true, ◌&&◌, List, ◌++◌, map, length, take, ltb, if◌then◌else◌}
 use Rattle.spec.specs.declared.Edge.{Edge}
 use Rattle.spec.specs.Limits.{entry_size, peer_size}
-use Rattle.spec.specs.Basics.{if◌then◌else◌, range}
+use Rattle.spec.specs.Basics.{range}
 use Rattle.spec.specs.Book.{as_entry_at, peer_entry_at, peer_offset}
 use Rattle.spec.specs.Edges.{entry_of, peer_of}
 use Rattle.spec.specs.Assembly.{at_shortcut, is_peer_hop, segment_of}

@@ -1,9 +1,9 @@
 -- The routes of a buffer of solution records, each by the path of its edges: what the code goes by.
 -- Assumes nothing.
-use Rattle.std.specs.Prelude.{ℕ, zero, suc, ◌+◌, ◌-◌, ◌*◌, ◌%◌, ◌≤◌, ◌<◌, ◌≡◌, Bool, true, false, List, [], map, length, get_or, take, drop, eqb}
+use Rattle.std.specs.Prelude.{ℕ, zero, suc, ◌+◌, ◌-◌, ◌*◌, ◌%◌, ◌≤◌, ◌<◌, ◌≡◌, Bool, true, false, List, [], map, length, get_or, take, drop, eqb, if◌then◌else◌}
 use Rattle.spec.specs.declared.PathInterface.{PathInterface}
 use Rattle.spec.specs.Limits.{solution_size, max_edges, max_entries}
-use Rattle.spec.specs.Basics.{if◌then◌else◌, filter, range, Once}
+use Rattle.spec.specs.Basics.{filter, range, Once}
 use Rattle.spec.specs.Octets.{be16}
 use Rattle.spec.specs.Book.{isd_asn_at}
 use Rattle.spec.specs.Assembly.{CombinedPath, combined_path, is_loop, outcome}

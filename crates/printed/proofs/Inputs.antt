@@ -19,7 +19,8 @@ use Rattle.spec.specs.declared.Verdict.TheVariants.{Accepted, Refused as Refused
 use Rattle.spec.specs.declared.ListAnswer.{ListAnswer}
 use Rattle.spec.specs.declared.ListAnswer.TheVariants.{Count, Refused as RefusedList}
 use Rattle.spec.specs.Limits.{solution_size, path_size}
-use Rattle.spec.specs.Basics.{if◌then◌else◌, filter, range}
+use Rattle.std.specs.Prelude.{if◌then◌else◌}
+use Rattle.spec.specs.Basics.{filter, range}
 use Rattle.spec.specs.Book.{verdict, isd_asn_at}
 use Rattle.spec.specs.Answers.{Listed, refused_list, listing, assembly}
 use Rattle.spec.specs.Printed.{is_path, refused_line}

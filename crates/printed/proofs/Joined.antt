@@ -8,7 +8,7 @@ use mathlib.Core.Bool.{Bool, true, false}
 use mathlib.Core.List.Memᴰ.{head}
 use mathlib.Core.List.Memᴰ.{tail}
 use mathlib.Core.List.{List, [], ◌∷◌, ◌++◌, map, flat_map, append-nil, Memᴰ as Mem, head-eq_of_cons-eq, tail-eq_of_cons-eq}
-use lib.ListN.{length, take, drop, replicate, length-map, length-drop}
+use lib.ListN.{length, take, drop, replicate, length-drop}
 use lib.Seq.{take_all, length-take-le}
 use lib.Dec.{ltb}
 use borrow.Author.Tests.{lt-ltb, le-ltb, ltb-false}
@@ -20,8 +20,9 @@ use Rattle.spec.specs.declared.Verdict.{Verdict}
 use Rattle.spec.specs.declared.Verdict.TheVariants.{Accepted, Refused as RefusedBook}
 use Rattle.spec.specs.declared.ListAnswer.{ListAnswer}
 use Rattle.spec.specs.declared.ListAnswer.TheVariants.{Count, Refused as RefusedList}
-use Rattle.spec.specs.Limits.{max_book, max_slots, max_edges, solution_size, path_size}
-use Rattle.spec.specs.Basics.{if◌then◌else◌, filter, range, padded}
+use Rattle.spec.specs.Limits.{max_book, max_slots, solution_size, path_size}
+use Rattle.std.specs.Prelude.{if◌then◌else◌}
+use Rattle.spec.specs.Basics.{filter, range, padded}
 use Rattle.spec.specs.Book.{verdict, isd_asn_at}
 use Rattle.spec.specs.Chains.{IsChain}
 use Rattle.spec.specs.Order.{solutions}

@@ -1,6 +1,6 @@
 -- The lines of a solution, from what assembly of its record answers.
 -- Assumes nothing.
-use Prim.Native.Nat.{ℕ, ◌+◌}
+use Prim.Native.Nat.{ℕ}
 use native.Mathlib.Nat.{le_refl}
 use mathlib.Core.Path.{◌≡◌, refl, sym, ap, ap₂, ◌∙◌, subst}
 use mathlib.Core.Logic.{◌⊎◌, inl, inr}
@@ -21,7 +21,8 @@ use Rattle.spec.specs.declared.Verdict.TheVariants.{Accepted, Refused as Refused
 use Rattle.spec.specs.declared.PathAnswer.{PathAnswer}
 use Rattle.spec.specs.declared.PathAnswer.TheVariants.{Path, Loop, Bare, Refused as RefusedPath}
 use Rattle.spec.specs.Limits.{path_size}
-use Rattle.spec.specs.Basics.{if◌then◌else◌, range, same_list, padded}
+use Rattle.std.specs.Prelude.{if◌then◌else◌}
+use Rattle.spec.specs.Basics.{range, same_list, padded}
 use Rattle.spec.specs.Octets.{Bytes}
 use Rattle.spec.specs.Book.{verdict}
 use Rattle.spec.specs.Chains.{IsChain, chains}

@@ -1,7 +1,7 @@
 -- The pieces of a printed list: its first line, and the lines of each solution. `proofs/Joined` says that, one after the other, they
 -- are the list.
 -- Assumes nothing.
-use Rattle.std.specs.Prelude.{ℕ, ◌+◌, ◌*◌, Bool, length, drop, ltb}
+use Rattle.std.specs.Prelude.{ℕ, ◌+◌, ◌*◌, Bool, length, drop, ltb, if◌then◌else◌}
 use mathlib.Core.List.{List, [], ◌∷◌, ◌++◌, flat_map}
 use Rattle.sha256.specs.Message.{sha256}
 use Rattle.spec.specs.declared.IsdAsn.{IsdAsn}
@@ -14,7 +14,7 @@ use Rattle.spec.specs.declared.PathAnswer.TheVariants.{Path, Loop, Bare, Refused
 use Rattle.spec.specs.declared.ListAnswer.{ListAnswer}
 use Rattle.spec.specs.declared.ListAnswer.TheVariants.{Count, Refused as RefusedList}
 use Rattle.spec.specs.Limits.{max_edges, max_entries, path_size}
-use Rattle.spec.specs.Basics.{if◌then◌else◌, filter, range, same_list}
+use Rattle.spec.specs.Basics.{filter, range, same_list}
 use Rattle.spec.specs.Book.{verdict, isd_asn_at}
 use Rattle.spec.specs.Chains.{chains}
 use Rattle.spec.specs.Records.{solution_octets, solution_in}

@@ -22,7 +22,8 @@ use Rattle.spec.specs.declared.Verdict.TheVariants.{Accepted, Refused as Refused
 use Rattle.spec.specs.declared.PathAnswer.{PathAnswer}
 use Rattle.spec.specs.declared.PathAnswer.TheVariants.{Path, Loop, Bare}
 use Rattle.spec.specs.Limits.{path_size}
-use Rattle.spec.specs.Basics.{if◌then◌else◌, any, same_list, padded}
+use Rattle.std.specs.Prelude.{if◌then◌else◌}
+use Rattle.spec.specs.Basics.{any, same_list, padded}
 use Rattle.spec.specs.Octets.{Bytes, octets2}
 use Rattle.spec.specs.Book.{verdict}
 use Rattle.spec.specs.Chains.{IsChain, chains}

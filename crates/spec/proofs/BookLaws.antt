@@ -22,7 +22,8 @@ use Rattle.spec.specs.declared.Verdict.{Verdict}
 use Rattle.spec.specs.declared.Verdict.TheVariants.{Accepted, Refused}
 use Rattle.spec.specs.declared.Edge.{Edge}
 use Rattle.spec.specs.Limits.{sizes_size, max_book, max_segments, max_entries}
-use Rattle.spec.specs.Basics.{if◌then◌else◌, any, range}
+use Rattle.std.specs.Prelude.{if◌then◌else◌}
+use Rattle.spec.specs.Basics.{any, range}
 use Rattle.spec.specs.Octets.{Bytes, be16, be32}
 use Rattle.spec.specs.Book.{Entry, segment_count, body_total, whole_length, lengths_below, is_long, too_long, bodies_verdict, verdict, mac_at, as_entry_at, peer_entry_at, peer_offset, peer_of_entry_at, peer_count, entry_at, entries_at, entry_end, segment_at, segments, entry_count_at, body_offset, id_at, timestamp_at}
 use Rattle.spec.specs.Edges.{no_entry, no_peer, entry_of, peer_of, insertions, firsts, stored_of, stored_edges}

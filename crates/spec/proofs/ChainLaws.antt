@@ -19,7 +19,8 @@ use Rattle.spec.specs.declared.Vertex.{Vertex}
 use Rattle.spec.specs.declared.Vertex.TheVariants.{AS}
 use Rattle.spec.specs.declared.Edge.{Edge}
 use Rattle.spec.specs.Limits.{max_edges}
-use Rattle.spec.specs.Basics.{if◌then◌else◌, filter}
+use Rattle.std.specs.Prelude.{if◌then◌else◌}
+use Rattle.spec.specs.Basics.{filter}
 use Rattle.spec.specs.Book.{same_as}
 use Rattle.spec.specs.Edges.{same_vertex, stored_edges}
 use Rattle.spec.specs.Chains.{allowed_kinds, Leads, IsChain, leaves, leaving, beginning, walks, chains}

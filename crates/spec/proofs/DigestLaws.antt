@@ -10,7 +10,8 @@ use lib.ListN.{length}
 use borrow.Author.Tests.{eqb-false}
 use Rattle.spec.specs.declared.SolutionEdge.{SolutionEdge}
 use Rattle.spec.specs.Limits.{max_edges}
-use Rattle.spec.specs.Basics.{if◌then◌else◌, filter, range}
+use Rattle.std.specs.Prelude.{if◌then◌else◌}
+use Rattle.spec.specs.Basics.{filter, range}
 use Rattle.spec.specs.Order.{compare_edges}
 use Rattle.spec.specs.Digests.{pair_digests, edge_digests, solution_digests}
 use Rattle.spec.specs.Records.{record_edge, solution_in}

@@ -18,7 +18,8 @@ use lib.ListN.{length}
 use lib.Dec.{eqb, ltb}
 use borrow.Author.Tests.{eqb-true, eq-eqb, ltb-true, ltb-false}
 use Rattle.spec.specs.declared.PathInterface.{PathInterface}
-use Rattle.spec.specs.Basics.{if◌then◌else◌, any, filter, Once}
+use Rattle.std.specs.Prelude.{if◌then◌else◌}
+use Rattle.spec.specs.Basics.{any, filter, Once}
 use Rattle.spec.specs.Book.{same_as}
 use Rattle.spec.proofs.Membership.{and-true, true-and, not-both, map-mem, mem-map, once-append}
 use Rattle.spec.specs.Routes.{same_interface, same_interfaces, longer, hold, hold_all}

@@ -22,7 +22,8 @@ use Rattle.spec.specs.declared.ListAnswer.TheVariants.{Count, Refused as Refused
 use Rattle.spec.specs.declared.PathAnswer.{PathAnswer}
 use Rattle.spec.specs.declared.PathAnswer.TheVariants.{Path, Loop, Bare, Refused as RefusedPath}
 use Rattle.spec.specs.Limits.{max_edges, solution_size, edge_size, path_size}
-use Rattle.spec.specs.Basics.{if◌then◌else◌, same_list, padded}
+use Rattle.std.specs.Prelude.{if◌then◌else◌}
+use Rattle.spec.specs.Basics.{same_list, padded}
 use Rattle.spec.specs.Octets.{Bytes, octets2}
 use Rattle.spec.specs.Book.{verdict}
 use Rattle.spec.specs.Chains.{chains}

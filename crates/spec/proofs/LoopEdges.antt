@@ -20,7 +20,8 @@ use Rattle.spec.specs.declared.Vertex.{Vertex}
 use Rattle.spec.specs.declared.Vertex.TheVariants.{AS, Peering}
 use Rattle.spec.specs.declared.Edge.{Edge}
 use Rattle.spec.specs.declared.Verdict.TheVariants.{Accepted}
-use Rattle.spec.specs.Basics.{if◌then◌else◌, range}
+use Rattle.std.specs.Prelude.{if◌then◌else◌}
+use Rattle.spec.specs.Basics.{range}
 use Rattle.spec.specs.Book.{Segment, segment_count, segment_at, segments, verdict}
 use Rattle.spec.specs.Edges.{same_vertex, entry_of, as_of, leaf_as, peer_of, edge_of, add_core_segment, as_insertions, peer_insertions, entry_insertions, insertions, same_ends, stored_of}
 use Rattle.spec.specs.Loopless.{Apart, Loopless}

@@ -11,7 +11,8 @@ use mathlib.Core.List.Memᴰ.{not-nil}
 use mathlib.Core.List.Memᴰ.{tail}
 use mathlib.Core.List.{List, [], ◌∷◌, ◌++◌, map, flat_map, Memᴰ as Mem}
 use lib.Dec.{T}
-use Rattle.spec.specs.Basics.{if◌then◌else◌, filter, Once}
+use Rattle.std.specs.Prelude.{if◌then◌else◌}
+use Rattle.spec.specs.Basics.{filter, Once}
 
 -- ---- tests
 

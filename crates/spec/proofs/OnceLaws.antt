@@ -20,7 +20,8 @@ use Rattle.spec.specs.declared.Vertex.{Vertex}
 use Rattle.spec.specs.declared.Vertex.TheVariants.{AS}
 use Rattle.spec.specs.declared.Edge.{Edge}
 use Rattle.spec.specs.Limits.{max_edges}
-use Rattle.spec.specs.Basics.{if◌then◌else◌, any, filter, range, Once}
+use Rattle.std.specs.Prelude.{if◌then◌else◌}
+use Rattle.spec.specs.Basics.{any, filter, range, Once}
 use Rattle.spec.specs.Book.{same_as, Segment, segment_at, segments, segment_count}
 use Rattle.spec.specs.Edges.{same_vertex, same_ends, in_construction, edge_of, add_core_segment, as_insertions, peer_insertions, entry_insertions, insertions, lasting, firsts, stored_of, stored_edges, entry_of, as_of, leaf_as}
 use Rattle.spec.specs.Chains.{allowed_kinds, IsChain, leaving, beginning, walks, chains}

@@ -20,7 +20,8 @@ use Rattle.spec.specs.declared.Verdict.TheVariants.{Accepted, Refused as Refused
 use Rattle.spec.specs.declared.ListAnswer.{ListAnswer}
 use Rattle.spec.specs.declared.ListAnswer.TheVariants.{Count, Refused as RefusedList}
 use Rattle.spec.specs.Limits.{max_slots, solution_size, path_size}
-use Rattle.spec.specs.Basics.{if◌then◌else◌, filter, padded}
+use Rattle.std.specs.Prelude.{if◌then◌else◌}
+use Rattle.spec.specs.Basics.{filter, padded}
 use Rattle.spec.specs.Book.{verdict, isd_asn_at}
 use Rattle.spec.specs.Chains.{IsChain}
 use Rattle.spec.specs.Order.{cost, solutions}

@@ -22,7 +22,8 @@ use Rattle.spec.specs.declared.ListAnswer.TheVariants.{Count, Refused as Refused
 use Rattle.spec.specs.declared.PathAnswer.{PathAnswer}
 use Rattle.spec.specs.declared.PathAnswer.TheVariants.{Path, Loop, Bare, Refused as RefusedPath}
 use Rattle.spec.specs.Limits.{solution_size}
-use Rattle.spec.specs.Basics.{if◌then◌else◌, filter, padded}
+use Rattle.std.specs.Prelude.{if◌then◌else◌}
+use Rattle.spec.specs.Basics.{filter, padded}
 use Rattle.spec.specs.Book.{verdict}
 use Rattle.spec.specs.Order.{solutions}
 use Rattle.spec.specs.Assembly.{combined_path, outcome}

@@ -13,7 +13,8 @@ use lib.Dec.{eqb, ltb}
 use borrow.Author.Tests.{ne_eqb, eq-eqb, eqb-true, eqb-false, ltb-true, ltb-false}
 use Rattle.spec.specs.declared.HopField.{HopField}
 use Rattle.spec.specs.declared.Edge.{Edge}
-use Rattle.spec.specs.Basics.{if◌then◌else◌, range}
+use Rattle.std.specs.Prelude.{if◌then◌else◌}
+use Rattle.spec.specs.Basics.{range}
 use Rattle.spec.specs.Book.{Segment}
 use Rattle.spec.specs.Edges.{entry_of, no_entry}
 use Rattle.spec.specs.Assembly.{fold_step, fold_macs, mac_of, id_below, stop_at, is_peer_hop, is_peer_edge, at_shortcut, hop_of, hop_count, used_entries, in_direction, hops_of, info_of}

@@ -16,7 +16,8 @@ use lib.Dec.{eqb}
 use Rattle.spec.specs.declared.Vertex.{Vertex}
 use Rattle.spec.specs.declared.Vertex.TheVariants.{AS, Peering}
 use Rattle.spec.specs.declared.Edge.{Edge}
-use Rattle.spec.specs.Basics.{if◌then◌else◌, range}
+use Rattle.std.specs.Prelude.{if◌then◌else◌}
+use Rattle.spec.specs.Basics.{range}
 use Rattle.spec.specs.Book.{Segment, segments}
 use Rattle.spec.specs.Edges.{entry_of, as_of, leaf_as, peer_of, edge_of, add_core_segment, as_insertions, peer_insertions, entry_insertions, insertions, firsts, stored_of, stored_edges}
 use Rattle.spec.specs.Chains.{Leads}

@@ -16,7 +16,8 @@ use Rattle.spec.specs.declared.HopField.{HopField}
 use Rattle.spec.specs.declared.InfoField.{InfoField}
 use Rattle.spec.specs.declared.PathInterface.{PathInterface}
 use Rattle.spec.specs.Limits.{max_edges, max_entries, path_head_size, info_size, meta_size, wire_info_size, wire_hop_size}
-use Rattle.spec.specs.Basics.{if◌then◌else◌, range, sum, padded}
+use Rattle.std.specs.Prelude.{if◌then◌else◌}
+use Rattle.spec.specs.Basics.{range, sum, padded}
 use Rattle.spec.specs.Octets.{Bytes, be32, octets2, octets4}
 use Rattle.spec.specs.Assembly.{CombinedPath}
 use Rattle.spec.specs.Records.{bit, info_octets, hop_octets, interface_as_octets, interface_id_octets, path_head, path_head_octets, path_head_in, path_octets}

@@ -21,7 +21,8 @@ use Rattle.spec.specs.declared.Verdict.TheVariants.{Accepted}
 use Rattle.spec.specs.declared.PathAnswer.TheVariants.{Path}
 use Rattle.spec.specs.declared.WireAnswer.TheVariants.{Count, Refused}
 use Rattle.spec.specs.Limits.{max_entries, path_head_size, info_size, hop_size, path_size, meta_size, wire_info_size, wire_hop_size, wire_size}
-use Rattle.spec.specs.Basics.{if◌then◌else◌, range, sum, padded}
+use Rattle.std.specs.Prelude.{if◌then◌else◌}
+use Rattle.spec.specs.Basics.{range, sum, padded}
 use Rattle.spec.specs.Octets.{Bytes, be16, be32, be64, octets2, octets4, octets8}
 use Rattle.spec.specs.Book.{verdict, mac_at, isd_asn_at}
 use Rattle.spec.specs.Chains.{allowed_kinds, IsChain}

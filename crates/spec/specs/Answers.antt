@@ -1,6 +1,6 @@
 -- What listing and assembly answer, and what they leave in the output: on every book, source, destination and output length.
 -- Assumes nothing.
-use Rattle.std.specs.Prelude.{ℕ, ◌+◌, length, replicate, ltb}
+use Rattle.std.specs.Prelude.{ℕ, ◌+◌, length, replicate, ltb, if◌then◌else◌}
 use mathlib.Core.List.{List, [], ◌∷◌, flat_map}
 use Rattle.spec.specs.declared.IsdAsn.{IsdAsn}
 use Rattle.spec.specs.declared.Edge.{Edge}
@@ -13,7 +13,7 @@ use Rattle.spec.specs.declared.ListAnswer.TheVariants.{Count, Refused as Refused
 use Rattle.spec.specs.declared.PathAnswer.{PathAnswer}
 use Rattle.spec.specs.declared.PathAnswer.TheVariants.{Path, Loop, Bare, Refused as RefusedPath}
 use Rattle.spec.specs.Limits.{path_size}
-use Rattle.spec.specs.Basics.{if◌then◌else◌, padded, same_list}
+use Rattle.spec.specs.Basics.{padded, same_list}
 use Rattle.spec.specs.Book.{verdict}
 use Rattle.spec.specs.Chains.{chains}
 use Rattle.spec.specs.Order.{solutions}

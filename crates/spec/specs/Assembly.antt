@@ -1,6 +1,6 @@
 -- The path of a chain: hops, MTU, interfaces, segment ids and expiry.
 -- Assumes nothing.
-use Rattle.std.specs.Prelude.{ℕ, ◌+◌, ◌-◌, ◌*◌, ◌/◌, ◌%◌, ◌^◌, min, Bool, true, false, ◌&&◌, ◌||◌, not, length, take, ltb, eqb}
+use Rattle.std.specs.Prelude.{ℕ, ◌+◌, ◌-◌, ◌*◌, ◌/◌, ◌%◌, ◌^◌, min, Bool, true, false, ◌&&◌, ◌||◌, not, length, take, ltb, eqb, if◌then◌else◌}
 use mathlib.Core.List.{List, [], ◌∷◌, ◌++◌, map, flat_map, reverse}
 use Rattle.std.specs.Int.Bits.{bit_xor}
 use Rattle.spec.specs.declared.IsdAsn.{IsdAsn}
@@ -11,7 +11,7 @@ use Rattle.spec.specs.declared.Edge.{Edge}
 use Rattle.spec.specs.declared.PathAnswer.{PathAnswer}
 use Rattle.spec.specs.declared.PathAnswer.TheVariants.{Path, Loop, Bare}
 use Rattle.spec.specs.Limits.{max_time, max_mtu}
-use Rattle.spec.specs.Basics.{if◌then◌else◌, any, filter, range}
+use Rattle.spec.specs.Basics.{any, filter, range}
 use Rattle.spec.specs.Octets.{be16}
 use Rattle.spec.specs.Book.{same_as, Entry, Segment, segment_at}
 use Rattle.spec.specs.Edges.{entry_of, as_of, peer_of}

@@ -1,7 +1,7 @@
 -- The book: its sizes and heads, the answer about it alone, and the segments that an accepted one holds.
 -- Everything is read at its offset in the book's bytes: a name that ends in `Offset` is a place, one that ends in `At` a value read at a place.
 -- Assumes nothing.
-use Rattle.std.specs.Prelude.{ℕ, zero, suc, ◌+◌, ◌*◌, Bool, not, List, [], ◌∷◌, map, length, get_or, take, drop, ltb, eqb}
+use Rattle.std.specs.Prelude.{ℕ, zero, suc, ◌+◌, ◌*◌, Bool, not, List, [], ◌∷◌, map, length, get_or, take, drop, ltb, eqb, if◌then◌else◌}
 use Rattle.spec.specs.declared.IsdAsn.{IsdAsn}
 use Rattle.spec.specs.declared.Sizes.{Sizes}
 use Rattle.spec.specs.declared.Head.{Head}
@@ -11,7 +11,7 @@ use Rattle.spec.specs.declared.Refusal.TheVariants.{Cut, Surplus, Oversize, Crow
 use Rattle.spec.specs.declared.Verdict.{Verdict}
 use Rattle.spec.specs.declared.Verdict.TheVariants.{Accepted, Refused}
 use Rattle.spec.specs.Limits.{sizes_size, head_size, entry_size, peer_size, peer_count_offset, max_book, max_segments, max_entries, max_peers}
-use Rattle.spec.specs.Basics.{if◌then◌else◌, any, range}
+use Rattle.spec.specs.Basics.{any, range}
 use Rattle.spec.specs.Octets.{be16, be32, be64}
 
 -- ---- sizes and heads
@@ -108,7 +108,7 @@ entries_verdict b end at (suc left) =
     else next
 
 -- 9.3: the first refusal of the two, if there is one
-infixr 4 ◌and_then◌
+infixr 6 ◌and_then◌
 abbrev pub ◌and_then◌ : Verdict → Verdict → Verdict
 Accepted and_then v = v
 (Refused r) and_then v = Refused r

@@ -1,13 +1,13 @@
 -- The chains of stored edges from a source to a destination: what a chain is, and the list of all.
 -- Assumes nothing.
-use Rattle.std.specs.Prelude.{ℕ, zero, suc, ◌≡◌, Bool, true, false, ◌&&◌, not, T}
+use Rattle.std.specs.Prelude.{ℕ, zero, suc, ◌≡◌, Bool, true, false, ◌&&◌, not, T, if◌then◌else◌}
 use mathlib.Core.List.{List, [], ◌∷◌, map, flat_map, Memᴰ}
 use Rattle.spec.specs.declared.IsdAsn.{IsdAsn}
 use Rattle.spec.specs.declared.Vertex.{Vertex}
 use Rattle.spec.specs.declared.Vertex.TheVariants.{AS}
 use Rattle.spec.specs.declared.Edge.{Edge}
 use Rattle.spec.specs.Limits.{max_edges}
-use Rattle.spec.specs.Basics.{if◌then◌else◌, filter}
+use Rattle.spec.specs.Basics.{filter}
 use Rattle.spec.specs.Book.{same_as}
 use Rattle.spec.specs.Edges.{same_vertex, stored_edges}
 

@@ -1,10 +1,9 @@
 -- How many fingerprints a comparison of two solutions works out.
 -- Assumes nothing.
-use Rattle.std.specs.Prelude.{ℕ, ◌+◌, ◌&&◌, not, List, [], ◌∷◌, map, length, eqb}
+use Rattle.std.specs.Prelude.{ℕ, ◌+◌, ◌&&◌, not, List, [], ◌∷◌, map, length, eqb, if◌then◌else◌}
 use Rattle.std.proofs.Math.Dec.{compare_is_eq}
 use Rattle.spec.specs.declared.Edge.{Edge}
 use Rattle.spec.specs.declared.SolutionEdge.{SolutionEdge}
-use Rattle.spec.specs.Basics.{if◌then◌else◌}
 use Rattle.spec.specs.Order.{cost, solution_edge, compare_edges}
 
 -- 5.7: a pair of edges: two where peer and shortcut leave it equal and the positions are different

@@ -1,13 +1,13 @@
 -- The stored edges of a book.
 -- Assumes nothing.
-use Rattle.std.specs.Prelude.{ℕ, ◌+◌, ◌-◌, Bool, false, ◌&&◌, not, length, get_or, ltb, eqb}
+use Rattle.std.specs.Prelude.{ℕ, ◌+◌, ◌-◌, Bool, false, ◌&&◌, not, length, get_or, ltb, eqb, if◌then◌else◌}
 use mathlib.Core.List.{List, [], ◌∷◌, ◌++◌, flat_map, reverse}
 use Rattle.spec.specs.declared.IsdAsn.{IsdAsn}
 use Rattle.spec.specs.declared.Vertex.{Vertex}
 use Rattle.spec.specs.declared.Vertex.TheVariants.{AS, Peering}
 use Rattle.spec.specs.declared.Edge.{Edge}
 use Rattle.spec.specs.declared.PeerEntry.{PeerEntry}
-use Rattle.spec.specs.Basics.{if◌then◌else◌, any, filter, range, same_list}
+use Rattle.spec.specs.Basics.{any, filter, range, same_list}
 use Rattle.spec.specs.Book.{Entry, Segment, same_as, segments, entry_at, peer_entry_at}
 
 -- ---- vertices

@@ -1,12 +1,12 @@
 -- The order of chains, and the ordered list. The fingerprint's digest, SHA-256, is a parameter.
 -- Assumes nothing.
 use Prim.Native.Nat.{ℕ, compare, Ordering}
-use Rattle.std.specs.Prelude.{◌≡◌, ◌⊎◌, Bool, true, false, length}
+use Rattle.std.specs.Prelude.{◌≡◌, ◌⊎◌, Bool, true, false, length, if◌then◌else◌}
 use mathlib.Core.List.{List, [], ◌∷◌, ◌++◌, map, flat_map}
 use Rattle.spec.specs.declared.IsdAsn.{IsdAsn}
 use Rattle.spec.specs.declared.Edge.{Edge}
 use Rattle.spec.specs.declared.SolutionEdge.{SolutionEdge}
-use Rattle.spec.specs.Basics.{if◌then◌else◌, sum}
+use Rattle.spec.specs.Basics.{sum}
 use Rattle.spec.specs.Octets.{octets2, octets8}
 use Rattle.spec.specs.Book.{Entry, Segment, segment_at}
 use Rattle.spec.specs.Chains.{IsChain, chains}
@@ -14,7 +14,7 @@ use Rattle.spec.specs.Chains.{IsChain, chains}
 -- ---- comparisons, one after the other
 
 -- 5.3: the second decides where the first leaves the two equal
-infixr 4 ◌then_by◌
+infixr 6 ◌then_by◌
 abbrev pub ◌then_by◌ : Ordering → Ordering → Ordering
 Ordering.lt then_by next = Ordering.lt
 Ordering.eq then_by next = next

@@ -1,6 +1,6 @@
 -- What the program prints for its standard input: source 8, destination 8, then the book.
 -- Assumes nothing.
-use Rattle.std.specs.Prelude.{ℕ, zero, suc, ◌+◌, ◌*◌, ◌/◌, ◌%◌, ◌^◌, Bool, true, false, length, drop, ltb}
+use Rattle.std.specs.Prelude.{ℕ, zero, suc, ◌+◌, ◌*◌, ◌/◌, ◌%◌, ◌^◌, Bool, true, false, length, drop, ltb, if◌then◌else◌}
 use Prim.Native.Char.{code}
 use Prim.Native.String.{String}
 use mathlib.Core.List.{List, [], ◌∷◌, ◌++◌, flat_map}
@@ -15,7 +15,7 @@ use Rattle.spec.specs.declared.Refusal.TheVariants.{Cut, Full}
 use Rattle.spec.specs.declared.Verdict.{Verdict}
 use Rattle.spec.specs.declared.Verdict.TheVariants.{Accepted, Refused}
 use Rattle.spec.specs.Limits.{max_slots, path_size}
-use Rattle.spec.specs.Basics.{if◌then◌else◌, filter}
+use Rattle.spec.specs.Basics.{filter}
 use Rattle.spec.specs.Book.{verdict, isd_asn_at}
 use Rattle.spec.specs.Order.{cost, solutions}
 use Rattle.spec.specs.Assembly.{CombinedPath, combined_path, outcome}

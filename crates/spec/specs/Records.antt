@@ -1,6 +1,6 @@
 -- The bytes of a solution and of a path.
 -- Assumes nothing.
-use Rattle.std.specs.Prelude.{ℕ, ◌+◌, ◌-◌, ◌*◌, ◌/◌, min, Bool, length, get_or, replicate, eqb}
+use Rattle.std.specs.Prelude.{ℕ, ◌+◌, ◌-◌, ◌*◌, ◌/◌, min, Bool, length, get_or, replicate, eqb, if◌then◌else◌}
 use mathlib.Core.List.{List, [], ◌∷◌, ◌++◌, map, flat_map}
 use Rattle.spec.specs.declared.IsdAsn.{IsdAsn}
 use Rattle.spec.specs.declared.HopField.{HopField}
@@ -11,7 +11,7 @@ use Rattle.spec.specs.declared.SolutionEdge.{SolutionEdge}
 use Rattle.spec.specs.declared.Solution.{Solution}
 use Rattle.spec.specs.declared.Path.{Path}
 use Rattle.spec.specs.Limits.{max_edges, solution_size, solution_head_size, edge_size, max_slots, path_head_size, info_size, hop_size}
-use Rattle.spec.specs.Basics.{if◌then◌else◌, range, padded}
+use Rattle.spec.specs.Basics.{range, padded}
 use Rattle.spec.specs.Octets.{be16, be32, octets2, octets4, octets8}
 use Rattle.spec.specs.Book.{isd_asn_at}
 use Rattle.spec.specs.Order.{cost, solution_edge}

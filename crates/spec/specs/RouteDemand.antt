@@ -1,6 +1,6 @@
 -- What the list of routes is, as a statement over listing, assembly and routing.
 -- Assumes nothing.
-use Rattle.std.specs.Prelude.{ℕ, ◌≤◌, ◌<◌, ◌≡◌, true, false, length, replicate}
+use Rattle.std.specs.Prelude.{ℕ, ◌≤◌, ◌<◌, ◌≡◌, true, false, length, replicate, if◌then◌else◌}
 use mathlib.Core.List.{List, [], ◌∷◌, ◌++◌, map, flat_map, Memᴰ}
 use Rattle.spec.specs.declared.IsdAsn.{IsdAsn}
 use Rattle.spec.specs.declared.Edge.{Edge}
@@ -9,7 +9,7 @@ use Rattle.spec.specs.declared.Refusal.{Refusal}
 use Rattle.spec.specs.declared.ListAnswer.TheVariants.{Count, Refused as RefusedList}
 use Rattle.spec.specs.declared.PathAnswer.TheVariants.{Path}
 use Rattle.spec.specs.Limits.{path_size}
-use Rattle.spec.specs.Basics.{if◌then◌else◌, any, padded, Once}
+use Rattle.spec.specs.Basics.{any, padded, Once}
 use Rattle.spec.specs.Order.{solutions}
 use Rattle.spec.specs.Assembly.{combined_path}
 use Rattle.spec.specs.Records.{solution_octets, path_octets, slots}

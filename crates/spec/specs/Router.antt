@@ -1,12 +1,12 @@
 -- The data plane draft's router, fed the infos and hops of a path record, and what demand 3 compares it with.
 -- Assumes nothing.
-use Rattle.std.specs.Prelude.{ℕ, ◌+◌, ◌-◌, ◌*◌, ◌/◌, ◌%◌, ◌≡◌, Bool, true, false, ◌&&◌, ◌||◌, length, get_or, take, drop, eqb}
+use Rattle.std.specs.Prelude.{ℕ, ◌+◌, ◌-◌, ◌*◌, ◌/◌, ◌%◌, ◌≡◌, Bool, true, false, ◌&&◌, ◌||◌, length, get_or, take, drop, eqb, if◌then◌else◌}
 use mathlib.Core.List.{List, [], ◌∷◌, ◌++◌, map, flat_map}
 use Rattle.spec.specs.declared.HopField.{HopField}
 use Rattle.spec.specs.declared.InfoField.{InfoField}
 use Rattle.spec.specs.declared.Edge.{Edge}
 use Rattle.spec.specs.Limits.{path_head_size, info_size, hop_size}
-use Rattle.spec.specs.Basics.{if◌then◌else◌, range}
+use Rattle.spec.specs.Basics.{range}
 use Rattle.spec.specs.Octets.{be16, be32}
 use Rattle.spec.specs.Book.{Segment, mac_at}
 use Rattle.spec.specs.Edges.{in_construction}

@@ -1,6 +1,6 @@
 -- Routes: of the solutions that have a path, one for each list of interfaces, the longest-lived, at the place of the route's first.
 -- Assumes nothing.
-use Rattle.std.specs.Prelude.{ℕ, Bool, true, false, ◌&&◌, length, eqb, ltb}
+use Rattle.std.specs.Prelude.{ℕ, Bool, true, false, ◌&&◌, length, eqb, ltb, if◌then◌else◌}
 use mathlib.Core.List.{List, [], ◌∷◌, flat_map}
 use Rattle.spec.specs.declared.IsdAsn.{IsdAsn}
 use Rattle.spec.specs.declared.Edge.{Edge}
@@ -9,7 +9,7 @@ use Rattle.spec.specs.declared.Refusal.TheVariants.{Full}
 use Rattle.spec.specs.declared.Verdict.{Verdict}
 use Rattle.spec.specs.declared.Verdict.TheVariants.{Accepted, Refused as RefusedBook}
 use Rattle.spec.specs.declared.ListAnswer.TheVariants.{Count}
-use Rattle.spec.specs.Basics.{if◌then◌else◌, filter, padded}
+use Rattle.spec.specs.Basics.{filter, padded}
 use Rattle.spec.specs.Book.{same_as, verdict}
 use Rattle.spec.specs.Order.{solutions}
 use Rattle.spec.specs.Assembly.{combined_path}

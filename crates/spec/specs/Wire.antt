@@ -1,7 +1,7 @@
 -- The data draft's standard path, from its layout: its bytes read as infos and hops, written of a path record, and read into one. All numbers are
 -- big-endian: the meta header is one of 32 bits, whose fields stand from its high end down.
 -- Assumes nothing.
-use Rattle.std.specs.Prelude.{ℕ, ◌+◌, ◌-◌, ◌*◌, ◌/◌, ◌%◌, ◌^◌, Bool, ◌||◌, ◌&&◌, not, length, get_or, replicate, eqb, ltb}
+use Rattle.std.specs.Prelude.{ℕ, ◌+◌, ◌-◌, ◌*◌, ◌/◌, ◌%◌, ◌^◌, Bool, ◌||◌, ◌&&◌, not, length, get_or, replicate, eqb, ltb, if◌then◌else◌}
 use mathlib.Core.List.{List, [], ◌∷◌, ◌++◌, map, flat_map}
 use Rattle.spec.specs.declared.HopField.{HopField}
 use Rattle.spec.specs.declared.InfoField.{InfoField}
@@ -10,7 +10,7 @@ use Rattle.spec.specs.declared.Refusal.TheVariants.{Small, Wire}
 use Rattle.spec.specs.declared.WireAnswer.{WireAnswer}
 use Rattle.spec.specs.declared.WireAnswer.TheVariants.{Count, Refused}
 use Rattle.spec.specs.Limits.{max_edges, max_entries, path_head_size, info_size, hop_size, interface_size, path_size, meta_size, wire_info_size, wire_hop_size, wire_size}
-use Rattle.spec.specs.Basics.{if◌then◌else◌, any, range, sum, padded}
+use Rattle.spec.specs.Basics.{any, range, sum, padded}
 use Rattle.spec.specs.Octets.{be16, be32, octets2, octets4}
 use Rattle.spec.specs.Book.{mac_at}
 use Rattle.spec.specs.Assembly.{CombinedPath}

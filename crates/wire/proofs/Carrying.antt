@@ -1,14 +1,13 @@
 -- The bytes of writer and reader, piece by piece.
 -- Assumes nothing.
-use Prim.Native.Nat.{ℕ, zero, suc, ◌+◌, ◌-◌, ◌*◌, ◌^◌, ◌≤◌, ◌<◌}
+use Prim.Native.Nat.{ℕ, zero, suc, ◌+◌, ◌*◌, ◌^◌, ◌≤◌, ◌<◌}
 use native.Mathlib.Nat.{zero-add, mul_comm}
 use native.Mathlib.Numerals.{add-one}
 use native.Mathlib.Omega.{arith}
 use mathlib.Core.Path.{◌≡◌, refl, sym, ap, ap₂, ◌∙◌}
 use mathlib.Core.Bool.{Bool, true, false}
 use mathlib.Core.List.{List, [], ◌∷◌, ◌++◌, map, flat_map, append-nil}
-use lib.ListN.{length, get_or, take, drop, set, replicate, length-append, length-map, length-drop, get_or-eq_default}
-use lib.Seq.{drop-length, take_all, length-take-le}
+use lib.ListN.{length, get_or, take, drop, replicate, length-append, length-map, length-drop, get_or-eq_default}
 use borrow.Author.Tests.{lt-ltb, le-ltb}
 use Rattle.spec.specs.declared.HopField.{HopField}
 use Rattle.spec.specs.declared.InfoField.{InfoField}
@@ -16,10 +15,11 @@ use Rattle.spec.specs.declared.Path.{Path}
 use Rattle.spec.specs.declared.Refusal.TheVariants.{Small, Wire}
 use Rattle.spec.specs.declared.WireAnswer.TheVariants.{Count, Refused}
 use Rattle.spec.specs.Limits.{max_edges, max_entries, path_head_size, info_size, hop_size, path_size, meta_size, wire_info_size, wire_hop_size, wire_size}
-use Rattle.spec.specs.Basics.{if◌then◌else◌, range, padded}
-use Rattle.spec.specs.Octets.{Bytes, be16, be32, be64, octets2, octets4, octets8}
+use Rattle.std.specs.Prelude.{if◌then◌else◌}
+use Rattle.spec.specs.Basics.{range, padded}
+use Rattle.spec.specs.Octets.{Bytes, be16, be32, be64, octets2, octets4}
 use Rattle.spec.specs.Book.{mac_at, isd_asn_at}
-use Rattle.spec.specs.Records.{info_octets, hop_octets, as_octets, no_interface, path_head, path_head_octets, path_head_in, path_octets}
+use Rattle.spec.specs.Records.{info_octets, hop_octets, no_interface, path_head, path_head_octets, path_head_in, path_octets}
 use Rattle.spec.specs.Router.{info_at, hop_at, record_info, record_hop, infos_in, hops_in}
 use Rattle.spec.specs.Wire.{segment_length, wire_info_count, wire_hop_count, hops_of_info, meta_number, meta_octets, wire_info_offset, wire_info, wire_infos_in, wire_info_octets, wire_hop_at, wire_hop_offset, wire_hop, wire_hops_in, wire_hop_octets, wire_octets, wire_of, plain_path, record_of, record_needs, writer_refuses, reader_refuses, Carried, refused_wire, carried}
 use Rattle.spec.proofs.Lists.{length-range, range-suc, map-range-first, flat_map-append}

@@ -12,7 +12,8 @@ use lib.ListN.{length, get_or}
 use lib.Dec.{eqb, ltb}
 use borrow.Author.Tests.{lt-ltb, le-ltb, eq-eqb, ne_eqb}
 use Rattle.spec.specs.Limits.{max_edges, max_entries, path_head_size, info_size, hop_size, interface_size, meta_size, wire_info_size, wire_hop_size}
-use Rattle.spec.specs.Basics.{if◌then◌else◌, any, range, sum}
+use Rattle.std.specs.Prelude.{if◌then◌else◌}
+use Rattle.spec.specs.Basics.{any, range, sum}
 use Rattle.spec.specs.Octets.{be32}
 use Rattle.spec.specs.Records.{path_head_in}
 use Rattle.spec.specs.Router.{info_at, record_info, infos_in}

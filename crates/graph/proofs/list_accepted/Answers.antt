@@ -4,7 +4,7 @@ use Rattle.graph.proofs.ListLaws.{full-answer, count-answer, room_fits, few}
 use Rattle.graph.proofs.list_accepted.Goals as goal
 
 pub search-n-requires : goal.search-n-requires
-search-n-requires c = record { ready = c.requires; room = record { room = room_fits _ _ c.slots_of-room.ensures; most = omega arith }; }
+search-n-requires c = record { ready = c.requires; room = record { room = room_fits _ _ c.slots_of-room.ensures; most = omega arith } }
 
 pub returns-then-room-n : goal.returns-then-room-n
 returns-then-room-n c = full-answer _ c.requires.ok _ _ _ _ _ _ _ c.slots_of-room.ensures c.search-n.ensures.state c.if-room-n.true c.zero.ensures

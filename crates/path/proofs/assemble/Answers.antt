@@ -14,7 +14,7 @@ returns-in_default-chain c = stranger-answer _ _ _ _ c.chain_of-chain.result c.c
 
 pub build-requires : goal.build-requires
 build-requires c =
-    let said = said-edges _ _ _ _ _ c.chain_of-chain.ensures.0 _ c.in-Edges.is in record { ready = table-ready _ _ said.1.ok c.chain_of-chain.ensures.1; record_in_book = chain-in-book _ _ _ _ _ said; path_size_in_bounds = c.if-out-lt-SIZE.false; }
+    let said = said-edges _ _ _ _ _ c.chain_of-chain.ensures.0 _ c.in-Edges.is in record { ready = table-ready _ _ said.1.ok c.chain_of-chain.ensures.1; record_in_book = chain-in-book _ _ _ _ _ said; path_size_in_bounds = c.if-out-lt-SIZE.false }
 
 pub returns : goal.returns
 returns c =

@@ -10,7 +10,7 @@ pub returns-then-records-k : goal.returns-then-records-k
 returns-then-records-k c = wrote-fields (wrote-past _ _ _ _ c.if-records-k.true) (omega arith)
 
 pub put_slot-requires : goal.put_slot-requires
-put_slot-requires c = record { ends_size_in_bounds = omega arith; k_in_bounds = omega arith; }
+put_slot-requires c = record { ends_size_in_bounds = omega arith; k_in_bounds = omega arith }
 
 pub returns : goal.returns
 returns c = wrote-fields c.put_slot.ensures.0 c.put_slot.ensures.1

@@ -1,6 +1,5 @@
 -- The goal, the kinds, the record.
 use mathlib.Core.Path.{ap, ◌∙◌}
-use borrow.Author.Tests.{not-true, not-false}
 use Rattle.spec.specs.Basics.{same_list}
 use Rattle.records.specs.Octets.{record_octets}
 use Rattle.graph.specs.RecordWalk.{has_arrived}

@@ -1,7 +1,6 @@
 -- Past the segments, in a segment with no entry, and in one that an earlier one equals, nothing is stored.
 use mathlib.Core.Path.{sym, ◌∙◌}
 use native.Mathlib.Omega.{arith}
-use borrow.Author.Tests.{not-true, not-false}
 use Rattle.graph.specs.Lookup.{found_edges}
 use Rattle.graph.proofs.SearchBounds.{counted}
 use Rattle.graph.proofs.IdentityPlaces.{identified-past, identified-empty, identified-first, identified-repeat}
@@ -20,7 +19,7 @@ returns-then-sizes-id c =
 
 pub count_of-requires : goal.count_of-requires
 count_of-requires c =
-    let z = counted _ c.requires.ok _ c.sizes_within-sizes.ensures in record { book_value = c.requires.ok; k_bound = omega arith; }
+    let z = counted _ c.requires.ok _ c.sizes_within-sizes.ensures in record { book_value = c.requires.ok; k_bound = omega arith }
 
 pub returns-then-count_of-eq0 : goal.returns-then-count_of-eq0
 unfolding found_edges
@@ -30,7 +29,7 @@ returns-then-count_of-eq0 c =
 
 pub is_first-requires : goal.is_first-requires
 is_first-requires c =
-    let z = counted _ c.requires.ok _ c.sizes_within-sizes.ensures in record { ready = c.requires; k_bound = omega arith; nonzero = omega (arith, c.count_of.ensures.0, c.if-count_of-eq0.false); }
+    let z = counted _ c.requires.ok _ c.sizes_within-sizes.ensures in record { ready = c.requires; k_bound = omega arith; nonzero = omega (arith, c.count_of.ensures.0, c.if-count_of-eq0.false) }
 
 pub returns-then-not-is_first : goal.returns-then-not-is_first
 unfolding found_edges
@@ -40,7 +39,7 @@ returns-then-not-is_first c =
 
 pub stored_edge-requires : goal.stored_edge-requires
 stored_edge-requires c =
-    let z = counted _ c.requires.ok _ c.sizes_within-sizes.ensures in record { ready = c.requires; position_bound = omega arith; }
+    let z = counted _ c.requires.ok _ c.sizes_within-sizes.ensures in record { ready = c.requires; position_bound = omega arith }
 
 pub returns : goal.returns
 returns c =

@@ -1,8 +1,6 @@
 -- `is_chain` meets its contract. The loop's invariant: the answer is that from edge x on, from where the edges before it have come.
 use mathlib.Core.Path.{refl, sym, ◌∙◌}
-use Prim.Native.Nat.{◌-◌}
 use native.Mathlib.Omega.{arith}
-use borrow.Author.Tests.{not-true, not-false}
 use Rattle.graph.specs.RecordWalk.{begun}
 use Rattle.graph.proofs.RecordWalkTurns.{bounded-two, bounded-further, all-passed, edge-gone, edge-astray, edge-passed}
 use Rattle.graph.proofs.chains.is_chain.Goals as goal
@@ -35,7 +33,7 @@ loop-x-preserved c = (
 )
 
 pub arrives-requires : goal.arrives-requires
-arrives-requires c = record { given_len = c.requires.given_len; count_le_max_edges = c.requires.count_le_max_edges; }
+arrives-requires c = record { given_len = c.requires.given_len; count_le_max_edges = c.requires.count_le_max_edges }
 
 pub returns : goal.returns
 unfolding begun

@@ -15,13 +15,13 @@ returns-then-i-n c =
     leaf-named c.args.book.now c.args.id p.position_value (ready-apart _ _ p.filled.ready _ p.filled.below) p.filled.count p.shortcut_lt_n p.peer_value c.if-i-n.true
 
 pub as_at-here-requires : goal.as_at-here-requires
-as_at-here-requires c = let p = c.requires in record { ready = p.filled.ready; k_bound = p.filled.below; i_bound = omega (arith, p.filled.count, p.shortcut_lt_n); }
+as_at-here-requires c = let p = c.requires in record { ready = p.filled.ready; k_bound = p.filled.below; i_bound = omega (arith, p.filled.count, p.shortcut_lt_n) }
 
 pub overflow_sub-n-2 : goal.overflow_sub-n-2
 overflow_sub-n-2 c = omega (arith, c.requires.filled.some)
 
 pub as_at-leaf-requires : goal.as_at-leaf-requires
-as_at-leaf-requires c = let p = c.requires in record { ready = p.filled.ready; k_bound = p.filled.below; i_bound = omega (arith, p.filled.count, p.filled.some); }
+as_at-leaf-requires c = let p = c.requires in record { ready = p.filled.ready; k_bound = p.filled.below; i_bound = omega (arith, p.filled.count, p.filled.some) }
 
 pub overflow_sub-result : goal.overflow_sub-result
 overflow_sub-result c = omega (arith, c.requires.filled.some)

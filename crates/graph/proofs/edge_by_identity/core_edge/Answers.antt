@@ -17,13 +17,13 @@ unfolding found_edges
 returns-then-id-gt0-2 c = core-peer _ c.args.id c.requires.position_value c.if-id-gt0-2.true
 
 pub as_at-first-requires : goal.as_at-first-requires
-as_at-first-requires c = let f = c.requires.filled in record { ready = f.ready; k_bound = f.below; i_bound = omega (arith, f.count, f.some); }
+as_at-first-requires c = let f = c.requires.filled in record { ready = f.ready; k_bound = f.below; i_bound = omega (arith, f.count, f.some) }
 
 pub overflow_sub-n : goal.overflow_sub-n
 overflow_sub-n c = omega (arith, c.requires.filled.some)
 
 pub as_at-last-requires : goal.as_at-last-requires
-as_at-last-requires c = let f = c.requires.filled in record { ready = f.ready; k_bound = f.below; i_bound = omega (arith, f.count, f.some); }
+as_at-last-requires c = let f = c.requires.filled in record { ready = f.ready; k_bound = f.below; i_bound = omega (arith, f.count, f.some) }
 
 pub edge_of_core-requires : goal.edge_of_core-requires
 edge_of_core-requires c = c.requires.filled.some

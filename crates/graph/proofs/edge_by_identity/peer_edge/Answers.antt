@@ -9,7 +9,7 @@ use Rattle.graph.proofs.IdentityReads.{peer-back, peer-other, peer-there}
 use Rattle.graph.proofs.edge_by_identity.peer_edge.Goals as goal
 
 pub peer_count-requires : goal.peer_count-requires
-peer_count-requires c = let p = c.requires in record { ready = p.filled.ready; k_bound = p.filled.below; i_bound = omega (arith, p.filled.count, p.shortcut_lt_n); }
+peer_count-requires c = let p = c.requires in record { ready = p.filled.ready; k_bound = p.filled.below; i_bound = omega (arith, p.filled.count, p.shortcut_lt_n) }
 
 pub returns-then-peer_count-q : goal.returns-then-peer_count-q
 unfolding found_edges
@@ -20,7 +20,7 @@ overflow_sub-q c = omega (arith, c.requires.peer_nonzero)
 
 pub peer_up-requires : goal.peer_up-requires
 peer_up-requires c =
-    let p = c.requires in record { ready = p.filled.ready; k_bound = p.filled.below; i_bound = omega (arith, p.filled.count, p.shortcut_lt_n); p_bound = omega (arith, p.peer_nonzero, c.peer_count.ensures); }
+    let p = c.requires in record { ready = p.filled.ready; k_bound = p.filled.below; i_bound = omega (arith, p.filled.count, p.shortcut_lt_n); p_bound = omega (arith, p.peer_nonzero, c.peer_count.ensures) }
 
 pub returns-then-not-id : goal.returns-then-not-id
 returns-then-not-id c =
@@ -33,10 +33,10 @@ overflow_sub-q-2 c = omega (arith, c.requires.peer_nonzero)
 
 pub link_at-link-requires : goal.link_at-link-requires
 link_at-link-requires c =
-    let p = c.requires in record { ready = p.filled.ready; k_bound = p.filled.below; i_bound = omega (arith, p.filled.count, p.shortcut_lt_n); p_bound = omega (arith, p.peer_nonzero, c.peer_count.ensures); }
+    let p = c.requires in record { ready = p.filled.ready; k_bound = p.filled.below; i_bound = omega (arith, p.filled.count, p.shortcut_lt_n); p_bound = omega (arith, p.peer_nonzero, c.peer_count.ensures) }
 
 pub find_peer-requires : goal.find_peer-requires
-find_peer-requires c = let p = c.requires in record { ready = p.filled.ready; k_bound = p.filled.below; i_bound = omega (arith, p.filled.count, p.shortcut_lt_n); }
+find_peer-requires c = let p = c.requires in record { ready = p.filled.ready; k_bound = p.filled.below; i_bound = omega (arith, p.filled.count, p.shortcut_lt_n) }
 
 pub returns-then-find_peer-q : goal.returns-then-find_peer-q
 unfolding found_edges
@@ -49,7 +49,7 @@ pub overflow_sub-n : goal.overflow_sub-n
 overflow_sub-n c = omega (arith, c.requires.filled.some)
 
 pub as_at-leaf-requires : goal.as_at-leaf-requires
-as_at-leaf-requires c = let p = c.requires in record { ready = p.filled.ready; k_bound = p.filled.below; i_bound = omega (arith, p.filled.count, p.filled.some); }
+as_at-leaf-requires c = let p = c.requires in record { ready = p.filled.ready; k_bound = p.filled.below; i_bound = omega (arith, p.filled.count, p.filled.some) }
 
 pub overflow_sub-result : goal.overflow_sub-result
 overflow_sub-result c = omega (arith, c.requires.filled.some)

@@ -14,12 +14,12 @@ returns-then-n-eq0 c = empty-between _ c.count_of-n.ensures.0 c.if-n-eq0.true _ 
 pub core_between-requires : goal.core_between-requires
 core_between-requires c =
     let n = c.count_of-n.ensures.0 in
-    let p = c.requires in record { filled = record { ready = p.ready; below = p.k_bound; count = n; some = omega arith }; k_value = sym c.is_core.ensures ∙ c.if-is_core.true; last_value = leaf-read _ n c.as_at-leaf.ensures; }
+    let p = c.requires in record { filled = record { ready = p.ready; below = p.k_bound; count = n; some = omega arith }; k_value = sym c.is_core.ensures ∙ c.if-is_core.true; last_value = leaf-read _ n c.as_at-leaf.ensures }
 
 pub edge_at_leaf-j-requires : goal.edge_at_leaf-j-requires
 edge_at_leaf-j-requires c =
     let n = c.count_of-n.ensures.0 in
-    let p = c.requires in record { filled = record { ready = p.ready; below = p.k_bound; count = n; some = omega arith }; k_value = sym c.is_core.ensures ∙ c.if-is_core.false; leaf_value = leaf-read _ n c.as_at-leaf.ensures; }
+    let p = c.requires in record { filled = record { ready = p.ready; below = p.k_bound; count = n; some = omega arith }; k_value = sym c.is_core.ensures ∙ c.if-is_core.false; leaf_value = leaf-read _ n c.as_at-leaf.ensures }
 
 pub returns-then-j : goal.returns-then-j
 unfolding found_edges

@@ -1,7 +1,6 @@
 -- `both_same` meets its contract.
 use mathlib.Core.Path.{sym, ap, ◌∙◌}
 use mathlib.Core.Bool.{◌&&◌}
-use borrow.Author.Tests.{not-true, not-false}
 use Rattle.spec.specs.Book.{same_as}
 use Rattle.graph.proofs.edges.both_same.Goals as goal
 

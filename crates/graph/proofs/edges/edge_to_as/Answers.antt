@@ -11,4 +11,4 @@ returns-then-n-eq0 c = whole-none _ _ _ _ c.none_found.ensures (empty-between _ 
 pub edge_at_leaf-requires : goal.edge_at_leaf-requires
 edge_at_leaf-requires c =
     let n = c.count_of-n.ensures.0 in
-    let p = c.requires in record { filled = record { ready = p.ready; below = p.k_bound; count = n; some = omega arith }; k_value = p.k_value; leaf_value = leaf-read _ n c.as_at.ensures; }
+    let p = c.requires in record { filled = record { ready = p.ready; below = p.k_bound; count = n; some = omega arith }; k_value = p.k_value; leaf_value = leaf-read _ n c.as_at.ensures }

@@ -8,7 +8,7 @@ pub returns-then-count_of-eq0 : goal.returns-then-count_of-eq0
 returns-then-count_of-eq0 c = let p = c.requires in byte-none _ _ p.ready _ p.k_bound c.count_of.ensures.0 _ c.if-count_of-eq0.true
 
 pub offset_at-requires : goal.offset_at-requires
-offset_at-requires c = let p = c.requires in record { k_lt_max_segments = position-below _ _ p.ready _ p.k_bound; i_lt_max_entries = omega arith; }
+offset_at-requires c = let p = c.requires in record { k_lt_max_segments = position-below _ _ p.ready _ p.k_bound; i_lt_max_entries = omega arith }
 
 pub bounds-book-offset_at : goal.bounds-book-offset_at
 bounds-book-offset_at c = let p = c.requires in omega (arith, entry-within _ _ p.ready _ p.k_bound 0 (some-entry _ _ p.ready _ p.k_bound c.count_of.ensures.0 c.if-count_of-eq0.false) c.offset_at.ensures.0)

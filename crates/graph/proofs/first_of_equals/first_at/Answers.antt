@@ -8,7 +8,7 @@ returns-then-seen-eq0 c = first-is _ _ (sym (c.requires.k_value c.if-seen-eq0.tr
 
 pub none_from-requires : goal.none_from-requires
 none_from-requires c =
-    let p = c.requires in record { ready = p.ready; k_bound = p.k_bound; word_end_in_bounds = p.word_end_in_bounds c.if-seen-eq0.false; none_below = c.kind_start.ensures; }
+    let p = c.requires in record { ready = p.ready; k_bound = p.k_bound; word_end_in_bounds = p.word_end_in_bounds c.if-seen-eq0.false; none_below = c.kind_start.ensures }
 
 pub returns-then-none_from : goal.returns-then-none_from
 returns-then-none_from c = first-is _ _ (sym c.if-none_from.true ∙ c.none_from.ensures)

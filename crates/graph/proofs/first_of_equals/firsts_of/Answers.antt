@@ -1,5 +1,4 @@
 -- The loop: the positions before k are told, and their marks are seen.
-use Prim.Native.Nat.{◌-◌}
 use native.Mathlib.Omega.{arith}
 use mathlib.Core.Path.{refl}
 use lib.ListN.{length-set}
@@ -15,7 +14,7 @@ bounds-seen-m c = let l = c.loop-k.invariant in omega (arith, mark-small _ c.mar
 pub first_at-requires : goal.first_at-requires
 first_at-requires c =
     let p = c.requires in
-    let s = c.loop-k.invariant.4 in record { ready = p.ready; k_bound = omega arith; k_value = (λ z. unseen-first _ _ _ s c.mark_of-m.ensures z); word_end_in_bounds = (λ d. seen_bytes _ _ _ s p.ready.ok (omega arith) _ d); }
+    let s = c.loop-k.invariant.4 in record { ready = p.ready; k_bound = omega arith; k_value = (λ z. unseen-first _ _ _ s c.mark_of-m.ensures z); word_end_in_bounds = (λ d. seen_bytes _ _ _ s p.ready.ok (omega arith) _ d) }
 
 pub bounds-seen-m-in-loop-k : goal.bounds-seen-m-in-loop-k
 bounds-seen-m-in-loop-k c = let l = c.loop-k.invariant in omega (arith, mark-small _ c.mark_of-m.ensures)

@@ -1,16 +1,15 @@
 -- The loop: no equal stands below j.
 use mathlib.Core.Path.{sym}
-use Prim.Native.Nat.{◌-◌}
 use native.Mathlib.Omega.{arith}
 use Rattle.graph.proofs.FirstOfEqualsLaws.{none_first, not_same, repeated}
 use Rattle.graph.proofs.first_of_equals.none_from.Goals as goal
 
 pub entry_word-last-requires : goal.entry_word-last-requires
-entry_word-last-requires c = let p = c.requires in record { ready = p.ready; k_bound = p.k_bound; word_end_in_bounds = p.word_end_in_bounds; }
+entry_word-last-requires c = let p = c.requires in record { ready = p.ready; k_bound = p.k_bound; word_end_in_bounds = p.word_end_in_bounds }
 
 pub next_alike-j-requires : goal.next_alike-j-requires
 next_alike-j-requires c =
-    let p = c.requires in record { ready = p.ready; end_bound = p.k_bound; word_end_in_bounds = p.word_end_in_bounds; word_value = (c.head_word-word.ensures, c.entry_word-last.ensures); none_below = p.none_below; }
+    let p = c.requires in record { ready = p.ready; end_bound = p.k_bound; word_end_in_bounds = p.word_end_in_bounds; word_value = (c.head_word-word.ensures, c.entry_word-last.ensures); none_below = p.none_below }
 
 pub loop-j-init : goal.loop-j-init
 loop-j-init c = c.next_alike-j.ensures.1
@@ -23,7 +22,7 @@ returns-then-same_segment c =
 pub next_alike-j-requires-in-loop-j : goal.next_alike-j-requires-in-loop-j
 next_alike-j-requires-in-loop-j c =
     let p = c.requires in
-    let n = not_same c.loop-j.invariant c.loop-j-test.true c.same_segment.ensures c.if-same_segment.false in record { ready = p.ready; end_bound = p.k_bound; word_end_in_bounds = p.word_end_in_bounds; word_value = (c.head_word-word.ensures, c.entry_word-last.ensures); none_below = n; }
+    let n = not_same c.loop-j.invariant c.loop-j-test.true c.same_segment.ensures c.if-same_segment.false in record { ready = p.ready; end_bound = p.k_bound; word_end_in_bounds = p.word_end_in_bounds; word_value = (c.head_word-word.ensures, c.entry_word-last.ensures); none_below = n }
 
 pub loop-j-smaller : goal.loop-j-smaller
 loop-j-smaller c = let n = c.next_alike-j-in-loop-j.ensures in omega arith

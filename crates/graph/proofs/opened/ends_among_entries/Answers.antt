@@ -1,5 +1,4 @@
 -- The loop: whether an entry below i has the one AS, and whether one has the other.
-use Prim.Native.Nat.{◌-◌}
 use native.Mathlib.Omega.{arith}
 use Rattle.graph.proofs.OpenedReads.{below_none, below-turn, below_all}
 use Rattle.graph.proofs.opened.ends_among_entries.Goals as goal

@@ -1,5 +1,4 @@
 -- `find_as` meets its contract. The loop's invariant: no entry below i has the AS.
-use Prim.Native.Nat.{◌-◌}
 use native.Mathlib.Omega.{arith}
 use Rattle.graph.specs.Leaving.{entry_with}
 use Rattle.graph.proofs.LookupScan.{scan-start, scan-stop, scan-turn, scan-end}

@@ -1,6 +1,5 @@
 -- `find_peer` meets its contract. The loop's invariant: no peer from p on has the link.
 use native.Mathlib.Omega.{arith}
-use borrow.Author.Tests.{not-true, not-false}
 use mathlib.Core.Path.{sym, ap, ◌∙◌}
 use Rattle.spec.specs.Book.{segment_at, peer_count}
 use Rattle.graph.specs.Leaving.{peer_linked}
@@ -10,7 +9,7 @@ use Rattle.graph.proofs.opened.find_peer.Goals as goal
 
 pub offset_at-at-requires : goal.offset_at-at-requires
 offset_at-at-requires c =
-    let p = c.requires in record { k_lt_max_segments = position-below _ _ p.ready _ p.k_bound; i_lt_max_entries = omega (arith, count_most _ p.ready.ok _ p.k_bound); }
+    let p = c.requires in record { k_lt_max_segments = position-below _ _ p.ready _ p.k_bound; i_lt_max_entries = omega (arith, count_most _ p.ready.ok _ p.k_bound) }
 
 pub as_within-requires : goal.as_within-requires
 as_within-requires c =

@@ -5,7 +5,7 @@ use Rattle.graph.proofs.opened.link_at.Goals as goal
 
 pub offset_at-start-requires : goal.offset_at-start-requires
 offset_at-start-requires c =
-    let p = c.requires in record { k_lt_max_segments = position-below _ _ p.ready _ p.k_bound; i_lt_max_entries = omega (arith, count_most _ p.ready.ok _ p.k_bound); }
+    let p = c.requires in record { k_lt_max_segments = position-below _ _ p.ready _ p.k_bound; i_lt_max_entries = omega (arith, count_most _ p.ready.ok _ p.k_bound) }
 
 pub as_within-local-requires : goal.as_within-local-requires
 as_within-local-requires c =

@@ -7,7 +7,7 @@ use Rattle.graph.proofs.opened.peer_count.Goals as goal
 
 pub offset_at-requires : goal.offset_at-requires
 offset_at-requires c =
-    let p = c.requires in record { k_lt_max_segments = position-below _ _ p.ready _ p.k_bound; i_lt_max_entries = omega (arith, count_most _ p.ready.ok _ p.k_bound); }
+    let p = c.requires in record { k_lt_max_segments = position-below _ _ p.ready _ p.k_bound; i_lt_max_entries = omega (arith, count_most _ p.ready.ok _ p.k_bound) }
 
 pub peers_at-requires : goal.peers_at-requires
 peers_at-requires c =

@@ -1,5 +1,4 @@
 -- The loop: what is pushed so far, and what the positions from k on give.
-use Prim.Native.Nat.{◌-◌}
 use native.Mathlib.Omega.{arith}
 use mathlib.Core.Path.{refl, ap}
 use lib.ListN.{length}
@@ -18,7 +17,7 @@ returns-then-q-n c = going-full c.loop-k.invariant.2 (omega arith)
 pub across_in-n-requires : goal.across_in-n-requires
 across_in-n-requires c =
     let p = c.requires in
-    let l = c.loop-k in record { prepared = p.prepared; k_lt_cores = omega arith; core_value = p.core_value; room = record { room = omega arith; most = omega arith }; }
+    let l = c.loop-k in record { prepared = p.prepared; k_lt_cores = omega arith; core_value = p.core_value; room = record { room = omega arith; most = omega arith } }
 
 pub loop-k-preserved : goal.loop-k-preserved
 loop-k-preserved c =
@@ -27,9 +26,9 @@ loop-k-preserved c =
       omega arith,
       elim c.if-plan-k-gt0.branch [ then-plan-k-gt0 w ↦ omega (arith, ap length w.out-is) | else-plan-k-gt0 w ↦ omega (arith, ap length w.out-is) ],
       elim c.if-plan-k-gt0.branch [
-          then-plan-k-gt0 w ↦
+        | then-plan-k-gt0 w ↦
             turn-push l.invariant.2 (over-turn _ _ _ _ (omega arith) (start_first _ _ _ (p.planned.starts l.k (omega arith) (omega arith)) (omega arith)))
-              w.across_in-n.ensures w.n-is w.out-is
+            w.across_in-n.ensures w.n-is w.out-is
         | else-plan-k-gt0 w ↦
             turn-pass l.invariant.2 (over_skip _ _ _ _ (omega arith) (λ t. start-core _ _ _ (p.planned.starts l.k (omega arith) (omega arith)) (omega arith) (omega arith) t)) w.n-is w.out-is
       ],

@@ -6,11 +6,11 @@ use Rattle.graph.proofs.search.across_in.Goals as goal
 
 pub core_leaving-found-requires : goal.core_leaving-found-requires
 core_leaving-found-requires c =
-    let p = c.requires in record { ready = p.prepared.ready; k_bound = omega arith; k_value = core_at _ _ (omega arith); }
+    let p = c.requires in record { ready = p.prepared.ready; k_bound = omega arith; k_value = core_at _ _ (omega arith) }
 
 pub across_with-requires : goal.across_with-requires
 across_with-requires c =
-    let p = c.requires in record { prepared = p.prepared; f_value = core-ends _ _ _ _ _ (omega arith) c.core_leaving-found.ensures c.in-Edge.is; room = p.room; }
+    let p = c.requires in record { prepared = p.prepared; f_value = core-ends _ _ _ _ _ (omega arith) c.core_leaving-found.ensures c.in-Edge.is; room = p.room }
 
 pub returns-in-Edge : goal.returns-in-Edge
 returns-in-Edge c =

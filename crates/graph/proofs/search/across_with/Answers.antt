@@ -11,7 +11,7 @@ pub returns-in_default : goal.returns-in_default
 returns-in_default c = no-link-end _ c.requires.f_value c.in_default.is
 
 pub last_edges-requires : goal.last_edges-requires
-last_edges-requires c = record { prepared = c.requires.prepared; fact = inr c.in-AS.is; room = c.requires.room; }
+last_edges-requires c = record { prepared = c.requires.prepared; fact = inr c.in-AS.is; room = c.requires.room }
 
 pub returns : goal.returns
 returns c = let p = c.requires.prepared in

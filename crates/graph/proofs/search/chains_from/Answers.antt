@@ -10,21 +10,21 @@ pub returns-then-same_vertex : goal.returns-then-same_vertex
 returns-then-same_vertex c = pushes-as c.push_one.ensures (chains-arrived _ _ _ _ c.same_vertex.ensures c.if-same_vertex.true)
 
 pub last_edges-requires : goal.last_edges-requires
-last_edges-requires c = let p = c.requires in record { prepared = p.prepared; fact = inl refl; room = p.room; }
+last_edges-requires c = let p = c.requires in record { prepared = p.prepared; fact = inl refl; room = p.room }
 
 pub returns-in_default : goal.returns-in_default
 returns-in_default c = let p = c.requires.prepared in
     pushes-as c.last_edges.ensures (chains-link _ _ _ _ _ _ p.cores p.count p.within c.same_vertex.ensures c.if-same_vertex.false c.in_default.is)
 
 pub last_edges-requires-then-e : goal.last_edges-requires-then-e
-last_edges-requires-then-e c = let p = c.requires in record { prepared = p.prepared; fact = inr c.in-AS.is; room = p.room; }
+last_edges-requires-then-e c = let p = c.requires in record { prepared = p.prepared; fact = inr c.in-AS.is; room = p.room }
 
 pub returns-then-e : goal.returns-then-e
 returns-then-e c = let p = c.requires.prepared in
     pushes-as c.last_edges-then-e.ensures (chains-core _ _ _ _ _ _ p.cores p.count p.within c.same_vertex.ensures c.if-same_vertex.false c.if-e.true)
 
 pub last_edges-requires-2 : goal.last_edges-requires-2
-last_edges-requires-2 c = let p = c.requires in record { prepared = p.prepared; fact = inr c.in-AS.is; room = record { room = omega arith; most = omega arith }; }
+last_edges-requires-2 c = let p = c.requires in record { prepared = p.prepared; fact = inr c.in-AS.is; room = record { room = omega arith; most = omega arith } }
 
 pub returns : goal.returns
 returns c = let p = c.requires.prepared in

@@ -8,7 +8,7 @@ use Rattle.graph.proofs.SearchTurns.{last-edge-found, last-edge-missing}
 use Rattle.graph.proofs.search.last_edge_in.Goals as goal
 
 pub edge_from-j-requires : goal.edge_from-j-requires
-edge_from-j-requires c = let p = c.requires in record { ready = p.ready; book_bound = p.book_bound; fact = p.fact; }
+edge_from-j-requires c = let p = c.requires in record { ready = p.ready; book_bound = p.book_bound; fact = p.fact }
 
 pub returns-then-not-j : goal.returns-then-not-j
 returns-then-not-j c = pushes-none (omega arith) (last-edge-missing _ _ _ _ _ _ c.requires.book_bound.0 (none-whole _ _ _ _ c.edge_from-j.ensures (not-true _ c.if-not-j.true)))

@@ -1,5 +1,4 @@
 -- The loop over last edges, in the positions where chains may arrive.
-use Prim.Native.Nat.{◌-◌}
 use native.Mathlib.Omega.{arith}
 use Rattle.graph.proofs.SearchPlan.{last-quiet, last-start, last_turn, last_less, last-position, last-room, last_end, last-full}
 use Rattle.graph.proofs.search.last_edges.Goals as goal
@@ -13,7 +12,7 @@ returns-then-q-n c = last-full c.loop-k.invariant (omega arith)
 pub last_edge_in-n-requires : goal.last_edge_in-n-requires
 last_edge_in-n-requires c =
     let p = c.requires in
-    let l = c.loop-k.invariant in record { ready = p.prepared.ready; book_bound = last-position p.prepared l (omega arith); fact = p.fact; room = last-room p.prepared l (omega arith) (omega arith); }
+    let l = c.loop-k.invariant in record { ready = p.prepared.ready; book_bound = last-position p.prepared l (omega arith); fact = p.fact; room = last-room p.prepared l (omega arith) (omega arith) }
 
 pub loop-k-smaller : goal.loop-k-smaller
 loop-k-smaller c =

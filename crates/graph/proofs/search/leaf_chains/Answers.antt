@@ -1,5 +1,4 @@
 -- The loop: what is pushed so far, and what the entries from i on give.
-use Prim.Native.Nat.{◌-◌}
 use native.Mathlib.Omega.{arith}
 use mathlib.Core.Path.{refl}
 use Rattle.graph.proofs.PushedTurns.{going-begin, going-push, going_end, going-full}
@@ -14,17 +13,17 @@ returns-then-q-n c = going-full c.loop-i.invariant.2 (omega arith)
 
 pub as_up-found-requires : goal.as_up-found-requires
 as_up-found-requires c =
-    let p = c.requires in record { ready = p.prepared.ready; k_bound = p.k_bound; i_bound = omega arith; }
+    let p = c.requires in record { ready = p.prepared.ready; k_bound = p.k_bound; i_bound = omega arith }
 
 pub chains_of-n-requires : goal.chains_of-n-requires
 chains_of-n-requires c =
     let p = c.requires in
-    let l = c.loop-i in record { prepared = p.prepared; room = record { room = omega arith; most = omega arith }; }
+    let l = c.loop-i in record { prepared = p.prepared; room = record { room = omega arith; most = omega arith } }
 
 pub peer_chains-n-requires : goal.peer_chains-n-requires
 peer_chains-n-requires c =
     let p = c.requires in
-    let l = c.loop-i in record { prepared = p.prepared; k_bound = p.k_bound; i_bound = omega arith; room = record { room = omega arith; most = omega (arith, c.chains_of-n.ensures.most) }; }
+    let l = c.loop-i in record { prepared = p.prepared; k_bound = p.k_bound; i_bound = omega arith; room = record { room = omega arith; most = omega (arith, c.chains_of-n.ensures.most) } }
 
 pub loop-i-preserved : goal.loop-i-preserved
 loop-i-preserved c =

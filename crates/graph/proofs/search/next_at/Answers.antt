@@ -1,6 +1,6 @@
 -- `next_at` meets its contract.
 use mathlib.Core.Path.{sym, ap}
-use Rattle.spec.specs.Basics.{if◌then◌else◌}
+use Rattle.std.specs.Prelude.{if◌then◌else◌}
 use Rattle.graph.proofs.search.next_at.Goals as goal
 
 pub returns-then-here : goal.returns-then-here

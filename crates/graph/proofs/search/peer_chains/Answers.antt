@@ -1,5 +1,4 @@
 -- The loop: what is pushed so far, and what the peers from p on give.
-use Prim.Native.Nat.{◌-◌}
 use native.Mathlib.Omega.{arith}
 use mathlib.Core.Path.{refl}
 use Rattle.graph.proofs.PushedTurns.{going-begin, going-push, going_end, going-full}
@@ -8,7 +7,7 @@ use Rattle.graph.proofs.SearchTurns.{each_start, each-found, each-end}
 use Rattle.graph.proofs.search.peer_chains.Goals as goal
 
 pub peer_count-count-requires : goal.peer_count-count-requires
-peer_count-count-requires c = let p = c.requires in record { ready = p.prepared.ready; k_bound = p.k_bound; i_bound = p.i_bound; }
+peer_count-count-requires c = let p = c.requires in record { ready = p.prepared.ready; k_bound = p.k_bound; i_bound = p.i_bound }
 
 pub loop-p-init : goal.loop-p-init
 loop-p-init c =
@@ -21,12 +20,12 @@ returns-then-q-n c = going-full c.loop-p.invariant.4 (omega arith)
 pub peer_up-found-requires : goal.peer_up-found-requires
 peer_up-found-requires c =
     let p = c.requires in
-    let l = c.loop-p in record { ready = p.prepared.ready; k_bound = p.k_bound; i_bound = p.i_bound; p_bound = omega arith; }
+    let l = c.loop-p in record { ready = p.prepared.ready; k_bound = p.k_bound; i_bound = p.i_bound; p_bound = omega arith }
 
 pub chains_of-n-requires : goal.chains_of-n-requires
 chains_of-n-requires c =
     let p = c.requires in
-    let l = c.loop-p in record { prepared = p.prepared; room = record { room = omega arith; most = omega arith }; }
+    let l = c.loop-p in record { prepared = p.prepared; room = record { room = omega arith; most = omega arith } }
 
 pub overflow_add-p : goal.overflow_add-p
 overflow_add-p c =

@@ -1,5 +1,5 @@
 -- The loop: the positions from k on are planned.
-use Prim.Native.Nat.{◌+◌, ◌*◌, ◌-◌}
+use Prim.Native.Nat.{◌+◌, ◌*◌}
 use native.Mathlib.Omega.{arith}
 use mathlib.Core.Path.{refl}
 use lib.ListN.{length-set, replicate}
@@ -14,7 +14,7 @@ loop-k-init c =
 
 pub begins_and_arrives-ends-requires : goal.begins_and_arrives-ends-requires
 begins_and_arrives-ends-requires c =
-    let p = c.requires in record { ready = p.ready; k_bound = omega arith; cores_value = p.cores_value; first_value = c.firsts_of-firsts.ensures.each _ (omega arith); }
+    let p = c.requires in record { ready = p.ready; k_bound = omega arith; cores_value = p.cores_value; first_value = c.firsts_of-firsts.ensures.each _ (omega arith) }
 
 pub loop-k-preserved : goal.loop-k-preserved
 loop-k-preserved c =

@@ -32,12 +32,12 @@ overflow_cast-q c =
 pub plan_of-plan-requires : goal.plan_of-plan-requires
 plan_of-plan-requires c =
     let p = c.requires in
-    let z = counted _ p.ready.ok _ c.sizes_within-sizes.ensures in record { ready = p.ready; count_value = (z.count, z.small); cores_value = z.cores; }
+    let z = counted _ p.ready.ok _ c.sizes_within-sizes.ensures in record { ready = p.ready; count_value = (z.count, z.small); cores_value = z.cores }
 
 pub all_chains-requires : goal.all_chains-requires
 all_chains-requires c =
     let p = c.requires in
-    let z = counted _ p.ready.ok _ c.sizes_within-sizes.ensures in record { prepared = record { ready = p.ready; planned = c.plan_of-plan.ensures; cores = z.cores; count = z.count; within = omega arith; small = z.small }; room = record { room = omega arith; most = omega arith }; }
+    let z = counted _ p.ready.ok _ c.sizes_within-sizes.ensures in record { prepared = record { ready = p.ready; planned = c.plan_of-plan.ensures; cores = z.cores; count = z.count; within = omega arith; small = z.small }; room = record { room = omega arith; most = omega arith } }
 
 pub returns : goal.returns
 returns c =

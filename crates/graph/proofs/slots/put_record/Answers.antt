@@ -1,6 +1,5 @@
 -- The invariant of the loop: the first j bytes are written.
 use mathlib.Core.Path.{refl, ◌∙◌}
-use Prim.Native.Nat.{◌-◌}
 use native.Mathlib.Omega.{arith}
 use lib.ListN.{length-set}
 use Rattle.output.proofs.Writing.{copied_none}

@@ -1,6 +1,5 @@
 -- `same_link` meets its contract.
 use mathlib.Core.Path.{sym, ◌∙◌}
-use borrow.Author.Tests.{not-true, not-false}
 use Rattle.graph.proofs.VertexTests.{links-ingress, links-interface, links-local, links-peer}
 use Rattle.graph.proofs.vertices.same_link.Goals as goal
 

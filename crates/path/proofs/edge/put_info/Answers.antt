@@ -4,7 +4,7 @@ use Rattle.path.proofs.Walking.{info-wrote}
 use Rattle.path.proofs.edge.put_info.Goals as goal
 
 pub info-requires : goal.info-requires
-info-requires c = record { ready = c.requires.ready; in_book = c.requires.in_book; }
+info-requires c = record { ready = c.requires.ready; in_book = c.requires.in_book }
 
 pub returns : goal.returns
 returns c = (info-wrote _ _ _ _ _ _ _ c.info.ensures c.info_octets-r.ensures c.copy.ensures, refl)

@@ -5,7 +5,7 @@ use Rattle.path.proofs.Standing.{link-ids, own-ids}
 use Rattle.path.proofs.entry.ids_offset.Goals as goal
 
 pub link_offset-requires : goal.link_offset-requires
-link_offset-requires c = record { at_bound = omega arith; peer_nonzero = (c.requires.stands_at.link (sym c.is_peer_hop.ensures ∙ c.if-is_peer_hop.true)).some; }
+link_offset-requires c = record { at_bound = omega arith; peer_nonzero = (c.requires.stands_at.link (sym c.is_peer_hop.ensures ∙ c.if-is_peer_hop.true)).some }
 
 pub returns-then-is_peer_hop : goal.returns-then-is_peer_hop
 returns-then-is_peer_hop c = link-ids _ _ _ _ c.requires.stands_at (sym c.is_peer_hop.ensures ∙ c.if-is_peer_hop.true) _ c.link_offset.ensures.0

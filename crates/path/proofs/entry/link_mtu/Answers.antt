@@ -6,7 +6,7 @@ use Rattle.path.proofs.Showing.{link-peer, link-shortcut, link-regular}
 use Rattle.path.proofs.entry.link_mtu.Goals as goal
 
 pub link_offset-requires : goal.link_offset-requires
-link_offset-requires c = record { at_bound = omega arith; peer_nonzero = (c.requires.stands_at.link (sym c.is_peer_hop.ensures ∙ c.if-is_peer_hop.true)).some; }
+link_offset-requires c = record { at_bound = omega arith; peer_nonzero = (c.requires.stands_at.link (sym c.is_peer_hop.ensures ∙ c.if-is_peer_hop.true)).some }
 
 pub read16-requires : goal.read16-requires
 read16-requires c = omega (arith, (c.requires.stands_at.link (sym c.is_peer_hop.ensures ∙ c.if-is_peer_hop.true)).room, c.link_offset.ensures.0)

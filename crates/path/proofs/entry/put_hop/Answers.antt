@@ -5,7 +5,7 @@ use Rattle.path.proofs.Showing.{link-wrote, own-wrote}
 use Rattle.path.proofs.entry.put_hop.Goals as goal
 
 pub link_offset-from-requires : goal.link_offset-from-requires
-link_offset-from-requires c = record { at_bound = omega arith; peer_nonzero = (c.requires.stands_at.link (sym c.is_peer_hop.ensures ∙ c.if-is_peer_hop.true)).some; }
+link_offset-from-requires c = record { at_bound = omega arith; peer_nonzero = (c.requires.stands_at.link (sym c.is_peer_hop.ensures ∙ c.if-is_peer_hop.true)).some }
 
 pub put_peer_hop-requires : goal.put_peer_hop-requires
 put_peer_hop-requires c = (omega (arith, (c.requires.stands_at.link (sym c.is_peer_hop.ensures ∙ c.if-is_peer_hop.true)).room, c.link_offset-from.ensures.0), omega arith)

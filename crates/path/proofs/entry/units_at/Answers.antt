@@ -5,7 +5,7 @@ use Rattle.path.proofs.Standing.{link-units, own-units}
 use Rattle.path.proofs.entry.units_at.Goals as goal
 
 pub link_offset-link-requires : goal.link_offset-link-requires
-link_offset-link-requires c = record { at_bound = omega arith; peer_nonzero = (c.requires.stands_at.link (sym c.is_peer_hop.ensures ∙ c.if-is_peer_hop.true)).some; }
+link_offset-link-requires c = record { at_bound = omega arith; peer_nonzero = (c.requires.stands_at.link (sym c.is_peer_hop.ensures ∙ c.if-is_peer_hop.true)).some }
 
 pub bounds-book-link : goal.bounds-book-link
 bounds-book-link c = omega (arith, (c.requires.stands_at.link (sym c.is_peer_hop.ensures ∙ c.if-is_peer_hop.true)).room, c.link_offset-link.ensures.0)

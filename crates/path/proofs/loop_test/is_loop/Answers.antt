@@ -8,7 +8,7 @@ pub loop-left-init : goal.loop-left-init
 loop-left-init c = (refl, refl)
 
 pub run_length-run-requires : goal.run_length-run-requires
-run_length-run-requires c = record { count_in_bounds = omega arith; count_bound = omega arith; count_nonzero = c.loop-left-test.true; x_value = c.read64-x.ensures; }
+run_length-run-requires c = record { count_in_bounds = omega arith; count_bound = omega arith; count_nonzero = c.loop-left-test.true; x_value = c.read64-x.ensures }
 
 pub returns-then-is_third : goal.returns-then-is_third
 returns-then-is_third c = sym (c.loop-left.invariant.0 ∙ thrice-found c.run_length-run.ensures _ c.is_third.ensures c.if-is_third.true)

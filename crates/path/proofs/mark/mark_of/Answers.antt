@@ -1,5 +1,4 @@
 -- `mark_of` meets its contract. The invariant of its loop: the mark is that of the first k interfaces.
-use Prim.Native.Nat.{◌-◌}
 use native.Mathlib.Omega.{arith}
 use Rattle.path.proofs.Weighing.{mark-none, mark-more, mark-all}
 use Rattle.path.proofs.mark.mark_of.Goals as goal

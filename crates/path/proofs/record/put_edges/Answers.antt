@@ -1,5 +1,4 @@
 -- `put_edges` meets its contract. The invariant of its loop: the first x edges are walked.
-use Prim.Native.Nat.{◌-◌}
 use native.Mathlib.Omega.{arith}
 use mathlib.Core.Path.{refl}
 use Rattle.path.proofs.Chaining.{few-edges, edge-fits, edge-in-book, walked_none, walked_more, walked-ends, walked-hops}
@@ -19,10 +18,10 @@ edge_in-e-requires c = edge-fits _ _ _ c.requires.record_in_book _ c.loop-x-test
 
 pub put_edge-w-requires : goal.put_edge-w-requires
 put_edge-w-requires c =
-    let v = c.loop-x.invariant in record { ready = c.requires.ready; in_book = edge-in-book _ _ _ c.requires.record_in_book _ c.loop-x-test.true _ c.edge_in-e.ensures; max_entries_in_bounds = omega (arith, v.0.hops.size, v.0.ases.size, v.0.ids.size, v.2, v.3, v.4, c.requires.path_size_in_bounds, few-edges _ _ _ c.requires.record_in_book); }
+    let v = c.loop-x.invariant in record { ready = c.requires.ready; in_book = edge-in-book _ _ _ c.requires.record_in_book _ c.loop-x-test.true _ c.edge_in-e.ensures; max_entries_in_bounds = omega (arith, v.0.hops.size, v.0.ases.size, v.0.ids.size, v.2, v.3, v.4, c.requires.path_size_in_bounds, few-edges _ _ _ c.requires.record_in_book) }
 
 pub expiry-end-requires : goal.expiry-end-requires
-expiry-end-requires c = record { book_value = c.requires.ready.ok; in_book = edge-in-book _ _ _ c.requires.record_in_book _ c.loop-x-test.true _ c.edge_in-e.ensures; units_value = c.put_edge-w.ensures.edge_walked.units; }
+expiry-end-requires c = record { book_value = c.requires.ready.ok; in_book = edge-in-book _ _ _ c.requires.record_in_book _ c.loop-x-test.true _ c.edge_in-e.ensures; units_value = c.put_edge-w.ensures.edge_walked.units }
 
 pub loop-x-preserved : goal.loop-x-preserved
 loop-x-preserved c =
@@ -45,4 +44,4 @@ shape_of-ids c = c.loop-x.invariant.0.ids.size
 
 pub returns : goal.returns
 returns c =
-    let v = c.loop-x.invariant in record { ends_of = walked-ends _ _ _ _ _ v.1 c.loop-x-test.false refl v.0; hops_and_ids = walked-hops _ _ _ _ _ v.1 c.loop-x-test.false refl v.0; }
+    let v = c.loop-x.invariant in record { ends_of = walked-ends _ _ _ _ _ v.1 c.loop-x-test.false refl v.0; hops_and_ids = walked-hops _ _ _ _ _ v.1 c.loop-x-test.false refl v.0 }

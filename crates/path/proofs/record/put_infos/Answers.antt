@@ -1,5 +1,4 @@
 -- `put_infos` meets its contract. The invariant of its loop: the infos of the first x edges are written.
-use Prim.Native.Nat.{◌-◌}
 use native.Mathlib.Omega.{arith}
 use mathlib.Core.Path.{refl}
 use Rattle.path.proofs.Chaining.{few-edges, edge-fits, edge-in-book, all_none, all_more, all_done}
@@ -12,7 +11,7 @@ pub edge_in-requires : goal.edge_in-requires
 edge_in-requires c = edge-fits _ _ _ c.requires.record_in_book _ c.loop-x-test.true
 
 pub put_info-to-requires : goal.put_info-to-requires
-put_info-to-requires c = record { ready = c.requires.ready; in_book = edge-in-book _ _ _ c.requires.record_in_book _ c.loop-x-test.true _ c.edge_in.ensures; info_size_in_bounds = omega (arith, few-edges _ _ _ c.requires.record_in_book); }
+put_info-to-requires c = record { ready = c.requires.ready; in_book = edge-in-book _ _ _ c.requires.record_in_book _ c.loop-x-test.true _ c.edge_in.ensures; info_size_in_bounds = omega (arith, few-edges _ _ _ c.requires.record_in_book) }
 
 pub loop-x-preserved : goal.loop-x-preserved
 loop-x-preserved c = (all_more _ _ _ _ c.edge_in.ensures c.loop-x.invariant.0 c.put_info-to.ensures.0, omega arith, omega arith, omega arith)

@@ -5,10 +5,10 @@ use Rattle.path.proofs.Assembling.{ases-fit, ids-fit, whole-fits, whole_is}
 use Rattle.path.proofs.record.put_path.Goals as goal
 
 pub path_head-head-requires : goal.path_head-head-requires
-path_head-head-requires c = record { book_value = c.requires.ready.ok; record_in_book = c.requires.record_in_book; ends_of = c.requires.ends_of; ases_nonzero = c.requires.path_size_in_bounds.1; }
+path_head-head-requires c = record { book_value = c.requires.ready.ok; record_in_book = c.requires.record_in_book; ends_of = c.requires.ends_of; ases_nonzero = c.requires.path_size_in_bounds.1 }
 
 pub put_infos-requires : goal.put_infos-requires
-put_infos-requires c = record { ready = c.requires.ready; record_in_book = c.requires.record_in_book; info_size_in_bounds = omega (arith, c.requires.path_size_in_bounds.0); }
+put_infos-requires c = record { ready = c.requires.ready; record_in_book = c.requires.record_in_book; info_size_in_bounds = omega (arith, c.requires.path_size_in_bounds.0) }
 
 pub overflow_add-next : goal.overflow_add-next
 overflow_add-next c = omega (arith, whole-fits _ (λ i. (c.type_inv.book i).fits) (accepted _ c.requires.ready.ok) _ c.requires.record_in_book.edges _ _ _ _ c.requires.ends_of c.requires.hops_and_ids c.requires.path_size_in_bounds.0)

@@ -1,5 +1,5 @@
 -- `clear` meets its contract. The invariant of its loop: the bytes before i are zero.
-use Prim.Native.Nat.{ℕ, ◌-◌}
+use Prim.Native.Nat.{ℕ}
 use native.Mathlib.Omega.{arith}
 use mathlib.Core.Path.{◌∙◌}
 use lib.ListN.{length-set}

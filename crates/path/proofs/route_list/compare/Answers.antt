@@ -9,7 +9,7 @@ pub record_in-given-requires : goal.record_in-given-requires
 record_in-given-requires c = c.requires.k_in_bounds.0
 
 pub walk-held-requires : goal.walk-held-requires
-walk-held-requires c = record { ready = c.requires.ready; of_book = subst (OfBook _) (sym c.record_in-given.ensures) c.requires.of_book; max_edges_in_bounds = (omega arith, omega arith); }
+walk-held-requires c = record { ready = c.requires.ready; of_book = subst (OfBook _) (sym c.record_in-given.ensures) c.requires.of_book; max_edges_in_bounds = (omega arith, omega arith) }
 
 pub returns-then-held-count : goal.returns-then-held-count
 returns-then-held-count c = compared-count _ _ _ _ _ _ _ _ c.walk-held.ensures _ _ c.record_in-given.ensures c.if-held-count.true

@@ -7,13 +7,13 @@ pub both_marks-requires : goal.both_marks-requires
 both_marks-requires c = (c.requires.given_len.6, c.requires.given_len.7)
 
 pub seek-held-requires : goal.seek-held-requires
-seek-held-requires c = record { ready = c.requires.ready; kept_in_bounds = (omega arith, set_room c.args.marks.now c.args.kept c.both_marks.result _ c.requires.given_len.3, omega arith, c.requires.given_len.5, c.requires.given_len.6, c.requires.given_len.7); all_of_book = c.requires.holds.slots; told = told_is _ _ _ _ _ _ _ c.requires.holds _ _ _ _ c.requires.shows c.requires.given_len.0 c.requires.of_book _ c.both_marks.ensures c.requires.given_len.3; chained = chained-is _ _ _ _ _ _ _ c.requires.holds _ _ _ _ c.requires.shows c.requires.given_len.0 c.requires.of_book _ c.both_marks.ensures c.requires.given_len.3; }
+seek-held-requires c = record { ready = c.requires.ready; kept_in_bounds = (omega arith, set_room c.args.marks.now c.args.kept c.both_marks.result _ c.requires.given_len.3, omega arith, c.requires.given_len.5, c.requires.given_len.6, c.requires.given_len.7); all_of_book = c.requires.holds.slots; told = told_is _ _ _ _ _ _ _ c.requires.holds _ _ _ _ c.requires.shows c.requires.given_len.0 c.requires.of_book _ c.both_marks.ensures c.requires.given_len.3; chained = chained-is _ _ _ _ _ _ _ c.requires.holds _ _ _ _ c.requires.shows c.requires.given_len.0 c.requires.of_book _ c.both_marks.ensures c.requires.given_len.3 }
 
 pub put_record-requires : goal.put_record-requires
 put_record-requires c = (c.requires.given_len.0, c.requires.given_len.1)
 
 pub link-requires : goal.link-requires
-link-requires c = record { kept_lt_max_slots = (c.requires.given_len.2, set_room c.args.marks.now c.args.kept c.both_marks.result _ c.requires.given_len.3, c.requires.given_len.4, c.requires.given_len.5); chained = chained-is _ _ _ _ _ _ _ c.requires.holds _ _ _ _ c.requires.shows c.requires.given_len.0 c.requires.of_book _ c.both_marks.ensures c.requires.given_len.3; }
+link-requires c = record { kept_lt_max_slots = (c.requires.given_len.2, set_room c.args.marks.now c.args.kept c.both_marks.result _ c.requires.given_len.3, c.requires.given_len.4, c.requires.given_len.5); chained = chained-is _ _ _ _ _ _ _ c.requires.holds _ _ _ _ c.requires.shows c.requires.given_len.0 c.requires.of_book _ c.both_marks.ensures c.requires.given_len.3 }
 
 pub overflow_add-result : goal.overflow_add-result
 overflow_add-result c = record { fits = omega (arith, c.requires.given_len.2) }

@@ -1,5 +1,4 @@
 -- `keep_all` meets its contract. The invariant of its loop: the front holds the routes of the first k records.
-use Prim.Native.Nat.{◌-◌}
 use native.Mathlib.Omega.{arith}
 use mathlib.Core.Path.{refl}
 use Rattle.path.proofs.Keeping.{turned_none, turned-holds, turned_more, turned-all}
@@ -10,7 +9,7 @@ loop-k-init c = (turned_none _ _ _ _ _ _ _ c.requires.all_of_book c.requires.cha
 
 pub keep-kept-requires : goal.keep-kept-requires
 keep-kept-requires c =
-    let v = c.loop-k.invariant in record { ready = c.requires.ready; k_in_bounds = (omega (arith, v.3), v.1, omega arith, omega (arith, v.4), omega (arith, v.5), omega (arith, v.6)); of_book = v.0.slots _ c.loop-k-test.true; holds = turned-holds _ _ _ _ _ _ _ _ _ _ v.0 v.1 c.loop-k-test.true; }
+    let v = c.loop-k.invariant in record { ready = c.requires.ready; k_in_bounds = (omega (arith, v.3), v.1, omega arith, omega (arith, v.4), omega (arith, v.5), omega (arith, v.6)); of_book = v.0.slots _ c.loop-k-test.true; holds = turned-holds _ _ _ _ _ _ _ _ _ _ v.0 v.1 c.loop-k-test.true }
 
 pub loop-k-preserved : goal.loop-k-preserved
 loop-k-preserved c =

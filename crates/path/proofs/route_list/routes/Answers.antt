@@ -6,7 +6,7 @@ use Rattle.path.proofs.route_list.routes.Goals as goal
 
 pub keep_by_length-kept-requires : goal.keep_by_length-kept-requires
 keep_by_length-kept-requires c =
-    let w = counted _ _ _ _ _ _ c.list-answer.ensures _ c.in-Count.is in record { ready = table-ready _ _ w.ok c.«open».ensures.1; n_in_bounds = (w.room, w.most); all_of_book = all-of-book _ _ _ _ _ _ w; }
+    let w = counted _ _ _ _ _ _ c.list-answer.ensures _ c.in-Count.is in record { ready = table-ready _ _ w.ok c.«open».ensures.1; n_in_bounds = (w.room, w.most); all_of_book = all-of-book _ _ _ _ _ _ w }
 
 pub overflow_mul-kept : goal.overflow_mul-kept
 overflow_mul-kept c = let w = counted _ _ _ _ _ _ c.list-answer.ensures _ c.in-Count.is in record { fits = omega (arith, w.most, c.keep_by_length-kept.ensures.few) }

@@ -15,7 +15,7 @@ pub loop-at-init : goal.loop-at-init
 loop-at-init c = passed_first _ _ _ _ _ _ _ c.requires.told c.requires.chained _ _ c.bucket.ensures.0 c.bucket.ensures.1 refl
 
 pub look-held-requires : goal.look-held-requires
-look-held-requires c = record { ready = c.requires.ready; kept_in_bounds = (c.requires.kept_in_bounds.0, c.requires.kept_in_bounds.1, omega (arith, c.loop-at.invariant.within, c.loop-at-test.true), c.requires.kept_in_bounds.4, c.requires.kept_in_bounds.5); all_of_book = c.requires.all_of_book; told = c.requires.told; }
+look-held-requires c = record { ready = c.requires.ready; kept_in_bounds = (c.requires.kept_in_bounds.0, c.requires.kept_in_bounds.1, omega (arith, c.loop-at.invariant.within, c.loop-at-test.true), c.requires.kept_in_bounds.4, c.requires.kept_in_bounds.5); all_of_book = c.requires.all_of_book; told = c.requires.told }
 
 pub returns-then-held-gt0 : goal.returns-then-held-gt0
 returns-then-held-gt0 c = sought-here _ _ _ _ _ _ _ c.requires.told c.requires.chained _ c.loop-at-test.true c.loop-at.invariant _ c.look-held.ensures c.if-held-gt0.true

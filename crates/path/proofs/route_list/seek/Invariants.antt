@@ -1,5 +1,4 @@
 -- `seek` meets its contract. The invariant of its loop: no slot from `at` on holds the route.
-use Prim.Native.Nat.{◌-◌}
 use lib.ListN.{length}
 use Rattle.path.specs.Slots.{shown_in}
 use Rattle.path.proofs.Seeking.{Passed}

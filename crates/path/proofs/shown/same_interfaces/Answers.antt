@@ -1,5 +1,4 @@
 -- `same_interfaces` meets its contract. The invariant of its loop: what is left decides.
-use Prim.Native.Nat.{◌-◌}
 use native.Mathlib.Omega.{arith}
 use Rattle.std.proofs.Common.{ap, not}
 use mathlib.Core.Path.{sym, ◌∙◌}

@@ -1,5 +1,4 @@
 -- `put_interfaces` meets its contract. The invariant of its loop: the first k lines are written.
-use Prim.Native.Nat.{◌-◌}
 use native.Mathlib.Omega.{arith}
 use mathlib.Core.Path.{◌≡◌, refl, ap}
 use Rattle.spec.specs.Printed.{interface_line}

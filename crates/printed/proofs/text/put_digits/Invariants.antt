@@ -1,5 +1,5 @@
 -- `put_digits` meets its contract. The invariant of its loop: the digits that are left, written before those that stand, are all.
-use Prim.Native.Nat.{◌-◌, ◌≤◌}
+use Prim.Native.Nat.{◌≤◌}
 use mathlib.Core.Path.{◌≡◌}
 use lib.ListN.{length}
 use Rattle.output.specs.Write.{written}

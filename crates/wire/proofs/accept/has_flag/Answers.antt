@@ -1,5 +1,4 @@
 -- `has_flag` meets its contract. The invariant of its loop: the first k hops have no flag.
-use Prim.Native.Nat.{◌-◌}
 use native.Mathlib.Omega.{arith}
 use Rattle.wire.proofs.Testing.{none_first, none-next, found, none_last, flagged, unflagged}
 use Rattle.wire.proofs.accept.has_flag.Goals as goal

@@ -1,8 +1,6 @@
 -- `has_reserved` meets its contract. The invariant of its loop: the first k infos are not odd.
-use Prim.Native.Nat.{◌-◌}
 use native.Mathlib.Omega.{arith}
 use mathlib.Core.Path.{sym, ◌∙◌}
-use Rattle.spec.specs.Wire.{uses_reserved}
 use Rattle.wire.proofs.Testing.{none_first, none-next, found, none_last}
 use Rattle.wire.proofs.accept.has_reserved.Goals as goal
 

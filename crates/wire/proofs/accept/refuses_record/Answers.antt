@@ -1,5 +1,4 @@
 -- `refuses_record` meets its contract. The invariant of its loop: the first k infos are not wrong, and have `total` hops.
-use Prim.Native.Nat.{◌-◌}
 use native.Mathlib.Omega.{arith}
 use mathlib.Core.Path.{sym, ◌∙◌}
 use Rattle.wire.proofs.Testing.{passed_none, passed-more, no-head, no-info, many-infos, no_room, wrong-found, wrong-sum}

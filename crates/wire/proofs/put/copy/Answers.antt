@@ -1,5 +1,4 @@
 -- `copy` meets its contract. The invariant of its loop: the first j bytes are copied.
-use Prim.Native.Nat.{◌-◌}
 use native.Mathlib.Omega.{arith}
 use mathlib.Core.Path.{refl, ◌∙◌}
 use lib.ListN.{length-set}

@@ -1,5 +1,4 @@
 -- `put_record_hops` meets its contract. The invariant of its loop: the first k hops are read.
-use Prim.Native.Nat.{◌-◌}
 use native.Mathlib.Omega.{arith}
 use mathlib.Core.Path.{refl}
 use Rattle.wire.proofs.Carrying.{filled_none, wire-room, record-hop-more, record-hop-all, kept}

@@ -1,5 +1,4 @@
 -- `put_record_infos` meets its contract. The invariant of its loop: the first k infos are read.
-use Prim.Native.Nat.{◌-◌}
 use native.Mathlib.Omega.{arith}
 use mathlib.Core.Path.{refl}
 use Rattle.wire.proofs.Carrying.{filled_none, wire-room, record-info-more, record-info-all, kept}

@@ -1,5 +1,4 @@
 -- `put_wire_hops` meets its contract. The invariant of its loop: the first k hops are written.
-use Prim.Native.Nat.{◌-◌}
 use native.Mathlib.Omega.{arith}
 use mathlib.Core.Path.{refl}
 use Rattle.wire.proofs.Carrying.{filled_none, record-room, wire-hop-more, wire-hop-all, kept}

@@ -1,5 +1,4 @@
 -- `put_wire_infos` meets its contract. The invariant of its loop: the first k infos are written.
-use Prim.Native.Nat.{◌-◌}
 use native.Mathlib.Omega.{arith}
 use mathlib.Core.Path.{refl}
 use Rattle.wire.proofs.Carrying.{filled_none, record-room, wire-info-more, wire-info-all, kept}
