@@ -46,9 +46,11 @@ PYTHON = $(wildcard bindings/python/combinator.py)
 .PHONY: lib shared run prove test compare bench scale fuzz install uninstall clean FORCE
 .SECONDARY:
 
+# For every processor of x86-64: the kit's own choice needs instructions that the oldest lack, and an archive does not look.
+CPU = --cpu=x86-64
 # With OVER=ci what is below the crate is not proved again, but taken as a run of `rt ci` has just left it.
 lib:
-	@$(if $(filter ci,$(OVER)),tools/archive,tools/progress rt lib combinator_c)
+	@$(if $(filter ci,$(OVER)),tools/archive,tools/progress rt lib combinator_c) $(CPU)
 	@mkdir -p build
 	@tools/align crates/combinator_c/out/libcombinator_c.a build/libcombinator.a
 	@$(MAKE) -s shared

@@ -89,13 +89,13 @@ def run(command, where):
     return ran.stdout
 
 
-def build_static(name, root=ROOT):
+def build_static(name, flags, root=ROOT):
     """A static library, proved and compiled: its archive."""
     archive = os.path.join("out", f"lib{name}.a")
     os.makedirs(os.path.join(folder(name, root), "out"), exist_ok=True)
     ready(name, root)
-    said = run([f"{home()}/bin/rattle", "build", *words(name, root), "--jobs", str(os.cpu_count()), "--toolchain", f"{home()}/toolchain", "--backend", "llvm", "-o", archive],
-               folder(name, root))
+    said = run([f"{home()}/bin/rattle", "build", *words(name, root), "--jobs", str(os.cpu_count()), "--toolchain", f"{home()}/toolchain", "--backend", "llvm", *flags,
+                "-o", archive], folder(name, root))
     if not re.search(r"^logic=proved ", said, re.M):
         raise Refused(said)
     return os.path.join(folder(name, root), archive)
