@@ -1,4 +1,4 @@
--- `same_parts_lem` meets its contract.
+-- `same_parts` meets its contract.
 use mathlib.Core.Path.{sym, ◌∙◌}
 use Rattle.equal.proofs.Sameness.{parts-bytes, parts-differ}
 use Rattle.equal.proofs.same_parts.Goals as goal
