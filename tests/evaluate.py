@@ -389,7 +389,7 @@ def transpile(texts):
     for f in FILES:
         for mod, params, t in items(strip(texts[f])):
             its.append((None if mod is None else (f, mod), params, t))
-    skip = {'if◌then◌else◌', '◌and_then◌', '◌then_by◌'}
+    skip = {'◌and_then◌', '◌then_by◌'}
     parsed = []
     for mod, params, t in its:
         t1 = t.strip()
@@ -403,7 +403,7 @@ def transpile(texts):
         name = t1.split()[0]
         i = t1.index(' =')
         lhs, rhs = (t1[:i], t1[i + 2:])
-        if name in skip or ' and_then ' in lhs or ' then_by ' in lhs or lhs.startswith('if '):
+        if name in skip or ' and_then ' in lhs or ' then_by ' in lhs:
             continue
         ts = toks(lhs)[::-1]
         ts.pop()

@@ -1,5 +1,4 @@
 -- `print_slots` meets its contract. The invariant of its loop: the first k solutions are written.
-use Prim.Native.Nat.{◌-◌}
 use native.Mathlib.Omega.{arith}
 use mathlib.Core.Path.{◌≡◌, ap, ◌∙◌}
 use mathlib.Core.List.{flat_map}
@@ -9,28 +8,27 @@ use Rattle.printed.specs.Pieces.{slot_text}
 use Rattle.list.proofs.Fronts.{none-long, one-longer, count-few}
 use Rattle.list.proofs.print_slots.Goals as goal
 
-)
-
 pub loop-k-init : goal.loop-k-init
-loop-k-init c = (none-long _, omega arith, omega arith)
+loop-k-init g c = (none-long _, omega arith, omega arith)
 
 pub print_slot-written-requires : goal.print_slot-written-requires
-print_slot-written-requires c = record { records_value = c.requires.records_value; k_bound = omega arith; }
+print_slot-written-requires g c = record { records_value = c.requires.records_value; k_bound = omega arith }
 
 pub overflow_add-written : goal.overflow_add-written
-overflow_add-written c = omega (arith, count-few c.args.input.now)
+overflow_add-written g c = omega (arith, count-few c.args.input.now)
 
 pub overflow_add-k : goal.overflow_add-k
-overflow_add-k c = omega (arith, count-few c.args.input.now)
+overflow_add-k g c = omega (arith, count-few c.args.input.now)
 
 pub loop-k-preserved : goal.loop-k-preserved
-loop-k-preserved c = (
+loop-k-preserved g c = (
   omega (arith, one-longer (slot_text c.args.input.now c.args.records.now) c.loop-k.k, c.print_slot-written.ensures.0),
   omega arith,
   omega (arith, c.print_slot-written.ensures.1),
+)
 
 pub returns : goal.returns
-returns c =
+returns g c =
     let e : c.loop-k.k ≡ c.args.count = omega arith in (
       c.loop-k.invariant.0 ∙ ap (λ n. length (flat_map (slot_text c.args.input.now c.args.records.now) (range 0 n))) e,
       omega (arith, count-few c.args.input.now),
