@@ -247,6 +247,9 @@ class Progress(unittest.TestCase):
             self.assertIn("BAD EDIT", "".join(lines + self.log().splitlines()))
             self.assertFalse((self.dir / "last").exists())
             self.assertNotIn("0 failed", "".join(lines))
+        self.says("cat says\n", "".join(line for line in SAYS.splitlines(True) if not line.startswith("rt: ok")))
+        lines, status = self.progress("rt", "--last", "last", "ci").rest()
+        self.assertEqual((status, (self.dir / "last").exists()), (1, False))
 
     def test_a_step(self):
         lines, status = self.progress("step", "form", "sh", "-c", "echo noise; echo 'skipped: this, for want of that'; echo 'form: all is well'").rest()
