@@ -1,5 +1,5 @@
 -- The book: its sizes and heads, the answer about it alone, and the segments that an accepted one holds.
--- Everything is read at its offset in the book's bytes: a name that ends in `_offset` is a place, one that ends in `_at` a value read at a place.
+-- Everything is read at its offset in the book's bytes: a name that ends in `Offset` is a place, one that ends in `At` a value read at a place.
 -- Assumes nothing.
 use Rattle.std.specs.Prelude.{ℕ, zero, suc, ◌+◌, ◌*◌, Bool, not, List, [], ◌∷◌, map, length, get_or, take, drop, ltb, eqb, if◌then◌else◌}
 use Rattle.spec.specs.declared.IsdAsn.{IsdAsn}
