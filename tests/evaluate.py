@@ -30,12 +30,7 @@ RIGHT = {'||', '&&', 'then_by', 'and_then', '++', '∷', '^'}
 KW = {'then', 'else', 'in', 'if', 'let', '=', ':'}
 NATIVE = {'get_or': ('N_get_or', 3), 'take': ('N_take', 2), 'drop': ('N_drop', 2), 'length': ('len', 1), 'replicate': ('N_rep', 2), 'map': ('N_map', 2), 'flat_map': ('N_flat', 2), 'reverse': ('N_rev', 1), 'ltb': ('N_ltb', 2), 'eqb': ('N_eqb', 2), 'not': ('N_not', 1), 'min': ('min', 2), 'compare': ('N_cmp', 2), 'bit_xor': ('N_xor', 2), 'code': ('N_code', 1), 'suc': ('N_suc', 1), 'compare_is_eq': ('N_is_eq', 1)}
 CONST = {'true': 'True', 'false': 'False', '[]': '()', 'zero': '0', 'Ordering.lt': '-1', 'Ordering.eq': '0', 'Ordering.gt': '1', 'tt': 'None'}
-CONS = {'AS': 1, 'Peering': 4, 'Accepted': 0, 'Refused': 1, 'RefusedBook': 1, 'RefusedList': 1, 'RefusedPath': 1, 'Count': 1, 'Path': 0, 'Loop': 0, 'Bare': 0, **{r: 0 for r in 'Cut Surplus Oversize Crowded Long Peers Misfit Full Small Stranger Twice Wire'.split()}}
-
-
-def cname(c):
-    """The three constructors of a refusal are one."""
-    return 'Refused' if c.startswith('Refused') else c
+CONS = {'AS': 1, 'Peering': 4, 'Ok': 1, 'Err': 1, 'Path': 0, 'Loop': 0, 'Bare': 0, **{r: 0 for r in 'Cut Surplus Oversize Crowded Long Peers Misfit Full Small Stranger Twice Wire'.split()}}
 
 
 def N_get_or(l, i, d):
@@ -197,7 +192,7 @@ class P:
             return f"{v}({','.join(args)})" if args else v
         if v in CONS:
             assert len(args) == CONS[v], (v, args)
-            return f"({cname(v)!r},{''.join((a + ',' for a in args))})"
+            return f"({v!r},{''.join((a + ',' for a in args))})"
         if v in NATIVE:
             n, ar = NATIVE[v]
             pre = []
@@ -256,7 +251,7 @@ class P:
 
 
 def N_and(a, b):
-    return b if a[0] == 'Accepted' else a
+    return b if a[0] == 'Ok' else a
 
 
 def strip(text):
@@ -347,7 +342,7 @@ def pattern(ts, local, tests, binds, var):
             local.add(inner[1][1])
             return
         if h in CONS:
-            tests.append(f'{var}[0]=={cname(h)!r}')
+            tests.append(f'{var}[0]=={h!r}')
             rest = inner[1:][::-1]
             i = 1
             while rest:
@@ -374,7 +369,7 @@ def pattern(ts, local, tests, binds, var):
         tests.append(f'{var}=={CONST[v]}')
         return
     if v in CONS:
-        tests.append(f'{var}[0]=={cname(v)!r}')
+        tests.append(f'{var}[0]=={v!r}')
         return
     binds.append((v, var))
     local.add(v)

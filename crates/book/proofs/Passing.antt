@@ -1,24 +1,24 @@
 -- What makes a body pass: its entries fit, no AS stands twice, and the offsets are stored.
 -- Assumes nothing.
 use mathlib.Core.Path.{◌≡◌, refl, sym, ap, ◌∙◌}
-use mathlib.Core.Bool.{Bool, false}
+use mathlib.Core.Bool.{Bool, true, false, ◌||◌}
+use Rattle.spec.proofs.Membership.{not-both}
 use mathlib.Core.List.{List}
 use Prim.Native.Nat.{ℕ, zero, suc, ◌+◌, ◌*◌, ◌-◌, ◌≤◌, ◌<◌}
 use native.Mathlib.Decide.{ℕ_discrete}
 use native.Mathlib.Omega.{arith}
 use lib.ListN.{set}
-use lib.Bits.{bit_or}
 use Rattle.spec.specs.declared.IsdAsn.{IsdAsn}
-use Rattle.spec.specs.declared.Verdict.TheVariants.{Accepted}
+use Rattle.std.specs.Prelude.{Ok}
 use Rattle.spec.specs.Limits.{entry_size, peer_size, max_peers}
 use Rattle.spec.specs.Book.{entry_count_at, body_length_at, body_offset, same_as, isd_asn_at, peer_count, entry_offset, entries_verdict, body_verdict}
 use Rattle.segment.proofs.Fitting.{offset_step}
 use Rattle.book.specs.Offsets.{with_row}
 use Rattle.book.specs.Repeats.{earlier, twice, entry_as, RowPassed}
-use Rattle.book.specs.Marks.{mark_of, bit_of, Marked}
+use Rattle.book.specs.Marks.{has_mark, Marked}
 use Rattle.book.proofs.Turns.{rest_verdict, rest-first, rest-next, rest-fill}
 use Rattle.book.proofs.Repeating.{none-twice, first-once, second-once, body-told}
-use Rattle.book.proofs.Marking.{bit-neither, unmarked}
+use Rattle.book.proofs.Marking.{unmarked}
 
 -- ---- a body of at most two entries
 
@@ -89,9 +89,9 @@ module _ (b : List ℕ) (row start end : ℕ) (table : List ℕ) (filled : start
 -- ---- a body of any number of entries
 
 module _ (b : List ℕ) (start : ℕ) where
-  pub entry-mark : (i : ℕ) {at m : ℕ} → at ≡ entry_offset b start i → m ≡ mark_of (isd_asn_at b at) → m ≡ mark_of (entry_as b start i)
+  pub entry-here : (i : ℕ) {at : ℕ} {a : IsdAsn} → at ≡ entry_offset b start i → a ≡ isd_asn_at b at → a ≡ entry_as b start i
   unfolding entry_as
-  entry-mark i ea em = em ∙ ap (λ o. mark_of (isd_asn_at b o)) ea
+  entry-here i ea e = e ∙ ap (isd_asn_at b) ea
 
   pub next-offset : (i : ℕ) {at peers next : ℕ} → at ≡ entry_offset b start i → peers ≡ peer_count b at → next ≡ at + (entry_size + peer_size * peers)
       → next ≡ entry_offset b start (i + 1)
@@ -102,20 +102,18 @@ pub next-rest : (b : List ℕ) (end at : ℕ) {peers next : ℕ} (n i : ℕ) →
 next-rest b end at n i room ep few h en = rest-next b end at room ep few n i h ∙ ap (λ o. rest_verdict b end o (n - (i + 1))) (sym en)
 
 -- no mark was seen again, and this one was not seen
-pub none-again : (ases : ℕ → IsdAsn) (i seen again found : ℕ) {m : ℕ} → Marked ases seen i → m ≡ mark_of (ases i) → bit_of found 0 ≡ bit_of seen m
-    → (bit_of again 0 ≡ 0 → (j : ℕ) → j < i → earlier ases j ≡ false) → bit_of (bit_or again found) 0 ≡ 0 → (j : ℕ) → j < i + 1 → earlier ases j ≡ false
-none-again ases i seen again found marked em ef before q j h = go (ℕ_discrete j i)
+pub none-again : (ases : ℕ → IsdAsn) (i seen : ℕ) (again found : Bool) → Marked ases seen i → found ≡ has_mark seen (ases i)
+    → (again ≡ false → (j : ℕ) → j < i → earlier ases j ≡ false) → (again || found) ≡ false → (j : ℕ) → j < i + 1 → earlier ases j ≡ false
+none-again ases i seen true found marked ef before q j h = not-both refl q
+none-again ases i seen false found marked ef before q j h = go (ℕ_discrete j i)
   where
-    neither : (bit_of again 0 ≡ 0) × (bit_of found 0 ≡ 0)
-    neither = bit-neither again found q
-
     go : Dec (j ≡ i) → earlier ases j ≡ false
-    go (yes e) = ap (earlier ases) e ∙ unmarked ases i seen marked em (sym ef ∙ neither.1)
-    go (no d) = before neither.0 j (omega (arith, d))
+    go (yes e) = ap (earlier ases) e ∙ unmarked ases i seen marked (sym ef ∙ q)
+    go (no d) = before refl j (omega (arith, d))
 
 module _ (b : List ℕ) (row start end : ℕ) (table : List ℕ) {count i at : ℕ} {stored : List ℕ} (done : count ≤ i) (most : i ≤ count) (full : at ≡ end)
     (left : entries_verdict b end start count ≡ rest_verdict b end at (count - i)) (rows : stored ≡ with_row b start row i table) where
-  pub row_fits : entries_verdict b end start count ≡ Accepted
+  pub row_fits : entries_verdict b end start count ≡ Ok tt
   row_fits = left ∙ rest-fill b end at count i done full
 
   pub row-stored : stored ≡ with_row b start row count table
@@ -124,11 +122,11 @@ module _ (b : List ℕ) (row start end : ℕ) (table : List ℕ) {count i at : �
   pub row_done : twice (entry_as b start) count ≡ false → RowPassed b row start end count table stored
   row_done once = record { fits = row_fits; once = once; rows = row-stored }
 
-  pub row-unseen : (again : ℕ) → (bit_of again 0 ≡ 0 → (j : ℕ) → j < i → earlier (entry_as b start) j ≡ false) → bit_of again 0 ≡ 0 → RowPassed b row start end count table stored
+  pub row-unseen : (again : Bool) → (again ≡ false → (j : ℕ) → j < i → earlier (entry_as b start) j ≡ false) → again ≡ false → RowPassed b row start end count table stored
   row-unseen again before q = row_done (none-twice (entry_as b start) count (λ j h. before q j (omega arith)))
 
 -- ---- the body at position k
 
 pub row-says : (b : List ℕ) (k : ℕ) {row at size count : ℕ} {table stored : List ℕ} → at ≡ body_offset b k → size ≡ body_length_at b k → count ≡ entry_count_at b k
-    → RowPassed b row at (at + size) count table stored → body_verdict b k ≡ Accepted
+    → RowPassed b row at (at + size) count table stored → body_verdict b k ≡ Ok tt
 row-says b k ea es ec p = body-told b k ea es ec p.fits (sym p.once)

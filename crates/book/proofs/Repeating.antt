@@ -3,29 +3,22 @@
 use mathlib.Core.Path.{◌≡◌, refl, sym, ap, ◌∙◌}
 use mathlib.Core.Bool.{Bool, false}
 use mathlib.Core.List.{List}
-use Prim.Native.Nat.{ℕ, zero, suc, ◌+◌, ◌*◌, ◌-◌, ◌^◌, ◌≤◌, ◌<◌}
-use native.Mathlib.Decide.{ℕ_discrete}
+use Prim.Native.Nat.{ℕ, zero, suc, ◌+◌, ◌*◌, ◌-◌, ◌≤◌, ◌<◌}
 use native.Mathlib.Omega.{arith}
 use lib.ListN.{length, get_or}
 use lib.Dec.{eqb}
-use borrow.Author.Tests.{eq-eqb, ne_eqb}
 use Rattle.spec.specs.declared.IsdAsn.{IsdAsn}
 use Rattle.spec.specs.declared.Refusal.{Refusal}
 use Rattle.spec.specs.declared.Refusal.TheVariants.{Twice}
-use Rattle.spec.specs.declared.Verdict.{Verdict}
-use Rattle.spec.specs.declared.Verdict.TheVariants.{Accepted, Refused}
+use Rattle.std.specs.Prelude.{Ok, Err, if◌then◌else◌}
+use Rattle.spec.specs.Book.{Verdict, entry_count_at, body_length_at, body_offset, same_as, isd_asn_at, entry_offset, local_at, has_local_of, stands_earlier, passes_twice, entries_verdict, body_verdict, ◌and_then◌}
 use Rattle.spec.specs.Limits.{max_segments, max_entries}
-use Rattle.std.specs.Prelude.{if◌then◌else◌}
 use Rattle.spec.specs.Basics.{any, range}
-use Rattle.spec.specs.Octets.{Bytes, be32, be64}
-use Rattle.spec.specs.Book.{entry_count_at, body_length_at, body_offset, same_as, isd_asn_at, entry_offset, local_at, has_local_of, stands_earlier, passes_twice, entries_verdict, body_verdict, ◌and_then◌}
-use Rattle.spec.proofs.BookLaws.{be32-lt}
 use Rattle.spec.proofs.BodyLaws.{good-places}
 use Rattle.segment.proofs.Positions.{any_none}
 use Rattle.book.specs.Offsets.{with_row}
-use Rattle.book.specs.Sizes.{Body}
+use Rattle.book.specs.Sizes.{InBook}
 use Rattle.book.specs.Repeats.{same_at, earlier, twice, entry_as, place_as, Within}
-use Rattle.book.specs.Marks.{mark_of}
 use Rattle.book.proofs.Tables.{row_at}
 
 -- ---- the same ASes
@@ -60,7 +53,7 @@ second-once ases e q = rw (sym e ∙ q)
 
 -- ---- a row that holds the offsets of a body
 
-module _ (b : List ℕ) {row start end count : ℕ} (z : Body b row start end count) (fits : entries_verdict b end start count ≡ Accepted) (table : List ℕ) {stored : List ℕ}
+module _ (b : List ℕ) {row start end count : ℕ} (z : InBook b row start end count) (fits : entries_verdict b end start count ≡ Ok tt) (table : List ℕ) {stored : List ℕ}
     (long : length table ≡ max_segments * max_entries) (rows : stored ≡ with_row b start row count table) where
   place-offset : (i : ℕ) → i < count → get_or stored (row + i) 0 ≡ entry_offset b start i
   place-offset i h = ap (λ t. get_or t (row + i) 0) rows ∙ row_at b start row table count i h (omega (arith, z.position, z.entries))
@@ -88,35 +81,14 @@ module _ (b : List ℕ) (k : ℕ) {at size count : ℕ} (ea : at ≡ body_offset
   body_twice : passes_twice b k ≡ twice (entry_as b at) count
   body_twice = twice-here ∙ ap (λ o. twice (entry_as b o) (entry_count_at b k)) (sym ea) ∙ ap (twice (entry_as b at)) (sym ec)
 
-  pub body_refused : {v : Verdict} {r : Refusal} → v ≡ entries_verdict b (at + size) at count → v ≡ Refused r → body_verdict b k ≡ Refused r
+  pub body_refused : {v : Verdict} {r : Refusal} → v ≡ entries_verdict b (at + size) at count → v ≡ Err r → body_verdict b k ≡ Err r
   unfolding body_verdict
-  body_refused e q = ap (λ v. v and_then (if passes_twice b k then Refused Twice else Accepted)) (body-entries ∙ sym e ∙ q)
+  body_refused e q = ap (λ v. v and_then (if passes_twice b k then Err Twice else Ok tt)) (body-entries ∙ sym e ∙ q)
 
-  pub body-told : entries_verdict b (at + size) at count ≡ Accepted → {t : Bool} → t ≡ twice (entry_as b at) count → body_verdict b k ≡ (if t then Refused Twice else Accepted)
+  pub body-told : entries_verdict b (at + size) at count ≡ Ok tt → {t : Bool} → t ≡ twice (entry_as b at) count → body_verdict b k ≡ (if t then Err Twice else Ok tt)
   unfolding body_verdict
   body-told fits {t} e =
-      ap (λ v. v and_then (if passes_twice b k then Refused Twice else Accepted)) (body-entries ∙ fits) ∙ ap (λ u. if u then Refused Twice else Accepted) (body_twice ∙ sym e)
-
--- ---- two ASes by their halves
-
-module _ (b : List ℕ) (bytes : Bytes b) (at other : ℕ) {x y : ℕ} (ex : x ≡ be32 b (at + 4)) (ey : y ≡ be32 b (other + 4)) where
-  pub low-differs : (x ≡ y → ⊥) → false ≡ same_as (isd_asn_at b at) (isd_asn_at b other)
-  unfolding same_as isd_asn_at be64
-  low-differs d = sym (ne_eqb (be32 b at * 2 ^ 32 + be32 b (at + 4)) (be32 b other * 2 ^ 32 + be32 b (other + 4)) apart)
-    where
-      apart : be32 b at * 2 ^ 32 + be32 b (at + 4) ≡ be32 b other * 2 ^ 32 + be32 b (other + 4) → ⊥
-      apart q = d (omega (arith, be32-lt b bytes (at + 4), be32-lt b bytes (other + 4)))
-
-  pub low_same : x ≡ y → {u v : ℕ} → u ≡ be32 b at → v ≡ be32 b other → eqb u v ≡ same_as (isd_asn_at b at) (isd_asn_at b other)
-  unfolding same_as isd_asn_at be64
-  low_same q {u} {v} eu ev = go (ℕ_discrete u v)
-    where
-      apart : (u ≡ v → ⊥) → be32 b at * 2 ^ 32 + be32 b (at + 4) ≡ be32 b other * 2 ^ 32 + be32 b (other + 4) → ⊥
-      apart d r = d (omega arith)
-
-      go : Dec (u ≡ v) → eqb u v ≡ eqb (be32 b at * 2 ^ 32 + be32 b (at + 4)) (be32 b other * 2 ^ 32 + be32 b (other + 4))
-      go (yes r) = eq-eqb u v r ∙ sym (eq-eqb (be32 b at * 2 ^ 32 + be32 b (at + 4)) (be32 b other * 2 ^ 32 + be32 b (other + 4)) (omega arith))
-      go (no d) = ne_eqb u v d ∙ sym (ne_eqb (be32 b at * 2 ^ 32 + be32 b (at + 4)) (be32 b other * 2 ^ 32 + be32 b (other + 4)) (apart d))
+      ap (λ v. v and_then (if passes_twice b k then Err Twice else Ok tt)) (body-entries ∙ fits) ∙ ap (λ u. if u then Err Twice else Ok tt) (body_twice ∙ sym e)
 
 -- ---- the turns of the loops over a row
 
@@ -128,14 +100,12 @@ pub twice-first : (ases : ℕ → IsdAsn) (n : ℕ) → twice ases n ≡ any (ea
 unfolding twice
 twice-first ases n = ap (λ m. any (earlier ases) (range 0 m)) (omega arith)
 
-pub places_same : (b table : List ℕ) (row i j : ℕ) {x y : ℕ} {t : Bool} → x ≡ get_or table (row + j) 0 → y ≡ get_or table (row + i) 0
-    → t ≡ same_as (isd_asn_at b x) (isd_asn_at b y) → same_at (place_as b table row) i j ≡ t
-unfolding same_at place_as
-places_same b table row i j ex ey e = cc
+-- ---- two ASes that are compared as numbers
 
-pub place-mark : (b table : List ℕ) (row i : ℕ) {x m : ℕ} → x ≡ get_or table (row + i) 0 → m ≡ mark_of (isd_asn_at b x) → m ≡ mark_of (place_as b table row i)
-unfolding place_as
-place-mark b table row i ex em = em ∙ ap (λ at. mark_of (isd_asn_at b at)) ex
+pub same_read : {x y a b : IsdAsn} → x ≡ a → y ≡ b → eqb x.0 y.0 ≡ same_as a b
+unfolding same_as
+same_read ex ey = cc
 
-pub within-less : (b table : List ℕ) (row : ℕ) {n m : ℕ} → Within b table row n → m ≤ n → Within b table row m
-within-less b table row w h = record { places = omega (arith, w.places); inside = λ j l. w.inside j (omega arith) }
+pub same-there : (ases : ℕ → IsdAsn) (i j : ℕ) {x a : IsdAsn} → x ≡ ases j → a ≡ ases i → same_at ases i j ≡ eqb x.0 a.0
+unfolding same_at same_as
+same-there ases i j ex ea = cc

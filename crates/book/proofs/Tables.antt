@@ -1,6 +1,7 @@
 -- The table of the entries' offsets: its turns, and what stands at each place.
 -- Assumes nothing.
 use mathlib.Core.Path.{◌≡◌, refl, sym, ap, ◌∙◌}
+use mathlib.Core.Bool.{true, false}
 use mathlib.Core.List.{List}
 use Prim.Native.Nat.{ℕ, zero, suc, ◌+◌, ◌*◌, ◌≤◌, ◌<◌}
 use native.Mathlib.Numerals.{add-one}
@@ -11,10 +12,11 @@ use lib.Seq.{get_or-set_same, get_or-set_other}
 use Rattle.spec.specs.Limits.{max_segments, max_entries}
 use Rattle.spec.specs.declared.AsEntry.{AsEntry}
 use Rattle.spec.specs.declared.Refusal.{Refusal}
-use Rattle.spec.specs.declared.Verdict.{Verdict}
-use Rattle.spec.specs.declared.Verdict.TheVariants.{Accepted, Refused}
-use Rattle.spec.specs.Book.{segment_count, entry_count_at, body_offset, peer_count, isd_asn_at, as_entry_at, peer_entry_at, peer_offset, entry_offset, segment_at, verdict}
+use Rattle.std.specs.Prelude.{Ok, Err}
+use Rattle.spec.specs.Book.{Verdict, segment_count, entry_count_at, body_offset, peer_count, isd_asn_at, as_entry_at, peer_entry_at, peer_offset, entry_offset, segment_at, verdict}
 use Rattle.spec.specs.Edges.{entry_of, as_of, peer_of}
+use Rattle.std.specs.Result.{is_err}
+use Rattle.spec.proofs.Membership.{not-both}
 use Rattle.spec.proofs.BookLaws.{AcceptedBook, entry-count}
 use Rattle.book.specs.Offsets.{no_offsets, with_row, rows_below, offset_table, table_on, open_table}
 use Rattle.segment.proofs.Fitting.{own_read, peers-read, peer-read}
@@ -83,12 +85,20 @@ rows_at b (suc n) s few k i h l = go (λ g. rows_at b n (omega arith) (λ j m. f
 
 -- ---- the table by the answer
 
+pub is-refused : (v : Verdict) → true ≡ is_err v → (r : Refusal) × (v ≡ Err r)
+is-refused (Ok _) q = not-both (sym q) refl
+is-refused (Err r) q = (r, refl)
+
+pub is-accepted : (v : Verdict) → false ≡ is_err v → v ≡ Ok tt
+is-accepted (Ok _) q = refl
+is-accepted (Err r) q = not-both refl (sym q)
+
 module _ (b : List ℕ) where
-  pub open-refused : {v : Verdict} {r : Refusal} → v ≡ verdict b → v ≡ Refused r → no_offsets ≡ open_table b
+  pub open-refused : {v : Verdict} {r : Refusal} → v ≡ verdict b → v ≡ Err r → no_offsets ≡ open_table b
   unfolding open_table
   open-refused p q = sym (ap (λ w. table_on w (offset_table b)) (sym p ∙ q))
 
-  pub open-accepted : {v : Verdict} → v ≡ verdict b → v ≡ Accepted → open_table b ≡ offset_table b
+  pub open-accepted : {v : Verdict} → v ≡ verdict b → v ≡ Ok tt → open_table b ≡ offset_table b
   unfolding open_table
   open-accepted p q = ap (λ w. table_on w (offset_table b)) (sym p ∙ q)
 

@@ -1,6 +1,7 @@
 -- Marks of ASes as bits of a word.
 -- Assumes nothing.
-use Rattle.std.specs.Prelude.{ℕ, ◌/◌, ◌%◌, ◌^◌, ◌<◌, ◌≡◌}
+use Rattle.std.specs.Prelude.{ℕ, ◌%◌, ◌<◌, ◌≡◌, Bool, true, eqb}
+use Rattle.std.specs.Int.{bit_at}
 use Rattle.spec.specs.declared.IsdAsn.{IsdAsn}
 
 -- as many as a word has bits
@@ -11,15 +12,15 @@ marks = 64
 unfoldable pub mark_of : IsdAsn → ℕ
 mark_of a = a.0 % marks
 
--- bit m of a word
-unfoldable pub bit_of : ℕ → ℕ → ℕ
-bit_of word m = word / 2 ^ m % 2
+-- a word has the bit that is the mark of an AS
+unfoldable pub has_mark : ℕ → IsdAsn → Bool
+has_mark word a = eqb (bit_at word (mark_of a)) 1
 
--- a word that has the bit m and all bits of another
-pub record Adds (m word more : ℕ) : Type 0 where
-  pub own : bit_of more m ≡ 1
-  pub kept : (j : ℕ) → bit_of word j ≡ 1 → bit_of more j ≡ 1
+-- a word that has the mark of an AS and all that another has
+pub record Adds (a : IsdAsn) (word more : ℕ) : Type 0 where
+  pub own : has_mark more a ≡ true
+  pub kept : (x : IsdAsn) → has_mark word x ≡ true → has_mark more x ≡ true
 
--- the marks of the first n ASes are among the bits of a word
+-- a word has the marks of the first n ASes
 abbrev pub Marked : (ℕ → IsdAsn) → ℕ → ℕ → Type 0
-Marked ases word n = (j : ℕ) → j < n → bit_of word (mark_of (ases j)) ≡ 1
+Marked ases word n = (j : ℕ) → j < n → has_mark word (ases j) ≡ true

@@ -1,10 +1,8 @@
 -- The table of the offsets at which a book's entries start.
 -- Assumes nothing.
-use Rattle.std.specs.Prelude.{ℕ, zero, suc, ◌+◌, ◌*◌, List, set, replicate}
-use Rattle.spec.specs.declared.Verdict.{Verdict}
-use Rattle.spec.specs.declared.Verdict.TheVariants.{Accepted, Refused}
+use Rattle.std.specs.Prelude.{ℕ, zero, suc, ◌+◌, ◌*◌, List, set, replicate, Ok, Err}
+use Rattle.spec.specs.Book.{Verdict, segment_count, entry_count_at, body_offset, entry_offset, verdict}
 use Rattle.spec.specs.Limits.{max_segments, max_entries}
-use Rattle.spec.specs.Book.{segment_count, entry_count_at, body_offset, entry_offset, verdict}
 
 unfoldable pub no_offsets : List ℕ
 no_offsets = replicate (max_segments * max_entries) 0
@@ -25,8 +23,8 @@ offset_table b = rows_below b (segment_count b)
 
 -- the table by the answer about the book
 abbrev pub table_on : Verdict → List ℕ → List ℕ
-table_on Accepted table = table
-table_on (Refused r) table = no_offsets
+table_on (Ok tt) table = table
+table_on (Err r) table = no_offsets
 
 unfoldable pub open_table : List ℕ → List ℕ
 open_table b = table_on (verdict b) (offset_table b)

@@ -1,8 +1,7 @@
 -- Whether an AS stands twice among some, of a body or of a row of the table of offsets.
 -- Assumes nothing.
-use Rattle.std.specs.Prelude.{ℕ, ◌+◌, ◌*◌, ◌≤◌, ◌<◌, ◌≡◌, Bool, false, List, length, get_or}
+use Rattle.std.specs.Prelude.{ℕ, ◌+◌, ◌*◌, ◌≤◌, ◌<◌, ◌≡◌, Bool, false, List, length, get_or, Ok}
 use Rattle.spec.specs.declared.IsdAsn.{IsdAsn}
-use Rattle.spec.specs.declared.Verdict.TheVariants.{Accepted}
 use Rattle.spec.specs.Limits.{max_segments, max_entries, entry_size}
 use Rattle.spec.specs.Basics.{any, range}
 use Rattle.spec.specs.Book.{same_as, isd_asn_at, entry_offset, entries_verdict}
@@ -36,6 +35,6 @@ pub record Within (b table : List ℕ) (row n : ℕ) : Type 0 where
 
 -- a body passes every test, and its offsets are stored
 pub record RowPassed (b : List ℕ) (row start end count : ℕ) (table stored : List ℕ) : Type 0 where
-  pub fits : entries_verdict b end start count ≡ Accepted
+  pub fits : entries_verdict b end start count ≡ Ok tt
   pub once : twice (entry_as b start) count ≡ false
   pub rows : stored ≡ with_row b start row count table

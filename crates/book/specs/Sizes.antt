@@ -1,23 +1,22 @@
 -- The answer about a book before its bodies, and what the pass over them goes by.
 -- Assumes nothing.
-use Rattle.std.specs.Prelude.{ℕ, ◌+◌, ◌*◌, ◌≤◌, ◌≡◌, false, not, List, [], ◌∷◌, length, ltb, eqb, if◌then◌else◌}
+use Rattle.std.specs.Prelude.{ℕ, suc, ◌+◌, ◌*◌, ◌≤◌, ◌≡◌, false, not, List, Result, length, ltb, eqb, if◌then◌else◌, Ok, Err}
+use Rattle.spec.specs.declared.Refusal.{Refusal}
 use Rattle.spec.specs.declared.Refusal.TheVariants.{Cut, Surplus, Oversize, Crowded, Long, Misfit}
-use Rattle.spec.specs.declared.Verdict.{Verdict}
-use Rattle.spec.specs.declared.Verdict.TheVariants.{Accepted, Refused}
-use Rattle.spec.specs.Limits.{sizes_size, entry_size, peer_size, max_book, max_segments, max_entries}
-use Rattle.spec.specs.Book.{segment_count, body_total, lengths_below, body_offset, whole_length, too_long}
+use Rattle.spec.specs.Book.{Verdict, segment_count, body_total, lengths_below, body_offset, whole_length, too_long, peer_count, entries_verdict}
+use Rattle.spec.specs.Limits.{sizes_size, entry_size, max_book, max_segments, max_entries, max_peers}
 
 -- the tests of `verdict` in their order, up to the bodies
 unfoldable pub sizes_verdict : List ℕ → Verdict
 sizes_verdict b =
-    if ltb max_book (length b) then Refused Oversize
-    else if ltb (length b) sizes_size then Refused Cut
-    else if ltb max_segments (segment_count b) then Refused Crowded
-    else if ltb (length b) (whole_length b) then Refused Cut
-    else if ltb (whole_length b) (length b) then Refused Surplus
-    else if too_long b then Refused Long
-    else if not (eqb (lengths_below b (segment_count b)) (body_total b)) then Refused Misfit
-    else Accepted
+    if ltb max_book (length b) then Err Oversize
+    else if ltb (length b) sizes_size then Err Cut
+    else if ltb max_segments (segment_count b) then Err Crowded
+    else if ltb (length b) (whole_length b) then Err Cut
+    else if ltb (whole_length b) (length b) then Err Surplus
+    else if too_long b then Err Long
+    else if not (eqb (lengths_below b (segment_count b)) (body_total b)) then Err Misfit
+    else Ok tt
 
 -- a book that passes them
 pub record Sized (b : List ℕ) : Type 0 where
@@ -35,14 +34,14 @@ pub record Fronted (b : List ℕ) (count start : ℕ) : Type 0 where
   pub whole : whole_length b ≡ length b
 
 -- a body of a book of sizes that fit: where its row of the table begins, its ends and its number of entries
-pub record Body (b : List ℕ) (row start end count : ℕ) : Type 0 where
+pub record InBook (b : List ℕ) (row start end count : ℕ) : Type 0 where
   pub position : row + max_entries ≤ max_segments * max_entries
   pub entries : count ≤ max_entries
   pub filled : start ≤ end
   pub inside : end ≤ length b
   pub small : length b ≤ max_book
 
--- the bytes of an entry with its peers, by their number
-abbrev pub entry_sizes : List ℕ
-entry_sizes =
-    (entry_size + peer_size * 0) ∷ (entry_size + peer_size * 1) ∷ (entry_size + peer_size * 2) ∷ (entry_size + peer_size * 3) ∷ (entry_size + peer_size * 4) ∷ []
+-- what the entry at an offset says of the body that ends at `end`: how many peers it has, or why it is refused whatever is left after it
+abbrev pub Counted : List ℕ → ℕ → ℕ → Result ℕ Refusal → Type 0
+Counted b end at (Ok n) = (at + entry_size ≤ end) × (n ≡ peer_count b at) × (n ≤ max_peers)
+Counted b end at (Err r) = (left : ℕ) → entries_verdict b end at (suc left) ≡ Err r

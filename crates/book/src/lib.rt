@@ -3,6 +3,7 @@
 #![tactic(auto)]
 
 mod answer;
+mod body;
 mod marks;
 mod numbers;
 mod offsets;

@@ -1,38 +1,35 @@
-// Marks of ASes as bits of a word: where an AS has stood before, so has its mark. The other way round it need not be.
-ghost use Rattle.std.specs.Prelude.{◌≡◌, ◌+◌, ◌≤◌, ◌<◌, length};
-ghost use Rattle.spec.specs.Limits.{entry_size};
-ghost use Rattle.spec.specs.Book.{isd_asn_at};
-ghost use Rattle.book.specs.Marks.{marks, mark_of, bit_of, Adds};
+// A set of ASes as bits of a word: it has each AS that was added, and may have others.
+ghost use Rattle.std.specs.Prelude.{◌≡◌};
+ghost use Rattle.book.specs.Marks.{mark_of, has_mark, Adds};
 
-// The last byte of an AS.
-const LAST: usize = 7;
+use spec::IsdAsn;
 
-fn wide(b: u8) -> u64
-    ensures { result ≡ b }
+#[derive(Clone, Copy)]
+pub(crate) struct Marks(u64);
+
+// The bit of an AS: its lowest six bits.
+fn mark(a: IsdAsn) -> u64
+    ensures { result ≡ mark_of a }
 {
-    b as u64
+    a.0 & 63
 }
 
-// The mark of the AS at an offset: its lowest six bits.
-pub(crate) fn mark(book: &[u8], at: usize) -> u64
-    requires { at + entry_size ≤ length book.now }
-    ensures { result ≡ mark_of (isd_asn_at book.now at) }
-{
-    wide(book[at + LAST]) & 63
-}
+impl Marks {
+    pub(crate) fn none() -> Marks
+        ensures { result.0 ≡ 0 }
+    {
+        Marks(0)
+    }
 
-// The bit of a mark, as the lowest of the answer.
-pub(crate) fn bit(seen: u64, m: u64) -> u64
-    requires { m < marks }
-    ensures { bit_of result 0 ≡ bit_of seen m }
-{
-    seen >> m
-}
+    pub(crate) fn has(self, a: IsdAsn) -> bool
+        ensures { result ≡ has_mark self.0 a }
+    {
+        (self.0 >> mark(a)) & 1 == 1
+    }
 
-// The word with the bit of a mark.
-pub(crate) fn with_bit(seen: u64, m: u64) -> u64
-    requires { m < marks }
-    ensures { Adds m seen result }
-{
-    seen | (1u64 << m)
+    pub(crate) fn with(self, a: IsdAsn) -> Marks
+        ensures { Adds a self.0 result.0 }
+    {
+        Marks(self.0 | (1 << mark(a)))
+    }
 }

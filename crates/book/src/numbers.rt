@@ -1,60 +1,46 @@
-// Numbers widened, and fields of heads that lie in the book, read with no test of its end.
+// Numbers of the book that lie within it, read with no test of its end.
 ghost use Rattle.std.specs.Prelude.{◌≡◌, ◌+◌, ◌*◌, ◌^◌, ◌≤◌, ◌<◌, length};
-ghost use Rattle.spec.specs.Limits.{sizes_size, head_size};
-ghost use Rattle.spec.specs.Octets.{be16, be32};
-ghost use Rattle.spec.specs.Book.{entry_count_at, body_length_at};
+ghost use Rattle.spec.specs.Limits.{sizes_size, head_size, entry_size};
+ghost use Rattle.spec.specs.Octets.{be16};
+ghost use Rattle.spec.specs.Book.{entry_count_at, body_length_at, isd_asn_at};
 
-use spec::{Head, Sizes};
+use spec::{Head, IsdAsn, Sizes};
 
-pub(crate) fn wide(x: u16) -> usize
-    ensures { (result ≡ x) × (result < 2 ^ 16) }
-{
-    x as usize
-}
-
-fn wide16(b: u8) -> u16
-    ensures { (result ≡ b) × (result < 256) }
-{
-    b as u16
-}
-
-pub(crate) fn pair(book: &[u8], at: usize) -> u16
+pub(crate) fn be16(book: &[u8], at: usize) -> u16
     requires { at + 2 ≤ length book.now }
     ensures { result ≡ be16 book.now at }
 {
-    wide16(book[at]) * 256 + wide16(book[at + 1])
+    u16::from_be_bytes([book[at], book[at + 1]])
 }
 
-fn wide32(b: u8) -> u32
-    ensures { (result ≡ b) × (result < 256) }
-{
-    b as u32
-}
-
-// Four bytes. The compiler makes one load of a flat sum.
-pub(crate) fn half(book: &[u8], at: usize) -> u32
-    requires { at + 4 ≤ length book.now }
-    ensures { result ≡ be32 book.now at }
-{
-    wide32(book[at]) * 16777216
-        + wide32(book[at + 1]) * 65536
-        + wide32(book[at + 2]) * 256
-        + wide32(book[at + 3])
-}
-
-pub(crate) fn count_within(book: &[u8], k: u8) -> u16
+// The fields of the head at position k.
+pub(crate) fn entry_count(book: &[u8], k: usize) -> usize
     requires { sizes_size + head_size * k + head_size ≤ length book.now }
-    ensures { result ≡ entry_count_at book.now k }
+    ensures { (result ≡ entry_count_at book.now k) × (result < 2 ^ 16) }
 {
-    pair(
-        book,
-        Sizes::SIZE + Head::SIZE * (k as usize) + Head::ENTRIES,
-    )
+    usize::from(be16(book, Sizes::SIZE + Head::SIZE * k + Head::ENTRIES))
 }
 
-pub(crate) fn length_within(book: &[u8], k: u8) -> u16
+pub(crate) fn body_length(book: &[u8], k: usize) -> usize
     requires { sizes_size + head_size * k + head_size ≤ length book.now }
-    ensures { result ≡ body_length_at book.now k }
+    ensures { (result ≡ body_length_at book.now k) × (result < 2 ^ 16) }
 {
-    pair(book, Sizes::SIZE + Head::SIZE * (k as usize) + Head::BODY)
+    usize::from(be16(book, Sizes::SIZE + Head::SIZE * k + Head::BODY))
+}
+
+// The AS of the entry at an offset.
+pub(crate) fn isd_asn(book: &[u8], at: usize) -> IsdAsn
+    requires { at + entry_size ≤ length book.now }
+    ensures { result ≡ isd_asn_at book.now at }
+{
+    IsdAsn(u64::from_be_bytes([
+        book[at],
+        book[at + 1],
+        book[at + 2],
+        book[at + 3],
+        book[at + 4],
+        book[at + 5],
+        book[at + 6],
+        book[at + 7],
+    ]))
 }

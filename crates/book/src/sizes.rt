@@ -4,71 +4,67 @@ ghost use Rattle.spec.specs.Limits.{sizes_size, head_size};
 ghost use Rattle.spec.specs.Book.{segment_count, body_offset, too_long};
 ghost use Rattle.book.specs.Sizes.{sizes_verdict};
 
-use crate::numbers::{count_within, length_within, wide};
-use spec::{Limits, Refusal, Sizes, Verdict};
+use crate::numbers::{body_length, entry_count};
+use spec::{Limits, Refusal, Sizes};
 
 // Some head has more entries than a segment may have.
-fn too_long(book: &[u8], count: u8) -> bool
-    requires count_value { count ≡ segment_count book.now }
-    requires count_in_bounds { sizes_size + head_size * count ≤ length book.now }
+fn too_long(book: &[u8], segments: usize) -> bool
+    requires segments_value { segments ≡ segment_count book.now }
+    requires segments_in_bounds { sizes_size + head_size * segments ≤ length book.now }
     ensures { result ≡ too_long book.now }
 {
-    let mut k: u8 = 0;
-    while k < count {
-        if Limits::ENTRIES < wide(count_within(book, k)) {
+    for k in 0..segments {
+        if Limits::ENTRIES < entry_count(book, k) {
             return true;
         }
-        k += 1;
     }
     false
 }
 
 // Where the last body ends; the first starts at `start`.
-fn bodies_end(book: &[u8], start: usize, count: u8) -> usize
+fn bodies_end(book: &[u8], start: usize, segments: usize) -> usize
     requires start_value { start ≡ body_offset book.now 0 }
     requires start_bound { start < 2 ^ 21 }
-    requires count_in_bounds { sizes_size + head_size * count ≤ length book.now }
-    ensures { result ≡ body_offset book.now count }
+    requires segments_bound { segments < 2 ^ 17 }
+    requires segments_in_bounds { sizes_size + head_size * segments ≤ length book.now }
+    ensures { result ≡ body_offset book.now segments }
 {
     let mut at = start;
-    let mut k: u8 = 0;
-    while k < count {
-        at += wide(length_within(book, k));
-        k += 1;
+    for k in 0..segments {
+        at += body_length(book, k);
     }
     at
 }
 
 // The answer about the sizes and the heads.
-pub(crate) fn sizes_verdict(book: &[u8]) -> Verdict
+pub(crate) fn sizes_verdict(book: &[u8]) -> Result<(), Refusal>
     ensures { result ≡ sizes_verdict book.now }
 {
     let n = book.len();
     if Limits::BOOK < n {
-        return Verdict::Refused(Refusal::Oversize);
+        return Err(Refusal::Oversize);
     }
     if n < Sizes::SIZE {
-        return Verdict::Refused(Refusal::Cut);
+        return Err(Refusal::Cut);
     }
-    let all = segment::segment_count(book);
-    if Limits::SEGMENTS < all {
-        return Verdict::Refused(Refusal::Crowded);
+    let segments = segment::segment_count(book);
+    if Limits::SEGMENTS < segments {
+        return Err(Refusal::Crowded);
     }
     let start = segment::body_offset(book, 0);
     let whole = start + segment::sizes(book).bodies as usize;
     if n < whole {
-        return Verdict::Refused(Refusal::Cut);
+        return Err(Refusal::Cut);
     }
     if whole < n {
-        return Verdict::Refused(Refusal::Surplus);
+        return Err(Refusal::Surplus);
     }
-    let count = all as u8;
-    if too_long(book, count) {
-        return Verdict::Refused(Refusal::Long);
+    if too_long(book, segments) {
+        return Err(Refusal::Long);
     }
     // The bodies' lengths make up their total.
-    if bodies_end(book, start, count) != n {
-        return Verdict::Refused(Refusal::Misfit);
+    if bodies_end(book, start, segments) != n {
+        return Err(Refusal::Misfit);
     }
-    Verdict::Accepted
+    Ok(())
 }

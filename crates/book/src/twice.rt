@@ -1,67 +1,69 @@
 // Whether an AS stands twice in a row of the table of offsets.
-ghost use Rattle.std.specs.Prelude.{◌≡◌, ◌+◌, ◌≤◌, ◌<◌, length};
-ghost use Rattle.spec.specs.Limits.{entry_size};
-ghost use Rattle.spec.specs.Book.{isd_asn_at, same_as};
+ghost use Rattle.std.specs.Prelude.{◌≡◌, ◌<◌};
 ghost use Rattle.book.specs.Repeats.{earlier, twice, place_as, Within};
 ghost use Rattle.book.specs.Marks.{Marked};
 
-use crate::marks::{bit, mark, with_bit};
-use crate::numbers::{half, wide};
+use crate::marks::Marks;
+use crate::numbers::isd_asn;
 use crate::offsets::PLACES;
+use spec::IsdAsn;
 
-// The ASes at two offsets are the same. Their low halves differ sooner.
-pub(crate) fn same_as(book: &[u8], at: usize, other: usize) -> bool
-    requires entry_size_in_bounds { at + entry_size ≤ length book.now }
-    requires entry_size_in_bounds_2 { other + entry_size ≤ length book.now }
-    ensures { result ≡ same_as (isd_asn_at book.now at) (isd_asn_at book.now other) }
-{
-    if half(book, at + 4) != half(book, other + 4) {
-        return false;
-    }
-    half(book, at) == half(book, other)
+// The offsets of a body's first `count` entries, which stand in the table from place `row` on.
+#[derive(Clone, Copy)]
+pub(crate) struct Row<'a> {
+    pub book: &'a [u8],
+    pub table: &'a [u16; PLACES],
+    pub row: usize,
+    pub count: usize,
+    ghost within: { Within book.now table.now row count },
 }
 
-// The AS of entry i stands earlier in its row.
-fn stands_earlier(book: &[u8], table: &[u16; PLACES], row: usize, i: usize) -> bool
-    requires { Within book.now table.now row (i + 1) }
-    ensures { result ≡ earlier (place_as book.now table.now row) i }
-{
-    let at = wide(table[row + i]);
-    let mut j: usize = 0;
-    while j < i {
-        if same_as(book, wide(table[row + j]), at) {
-            return true;
+impl Row<'_> {
+    // The AS of entry i.
+    fn isd_asn(&self, i: usize) -> IsdAsn
+        requires { i < self.now.count }
+        ensures { result ≡ place_as self.now.book.now self.now.table.now self.now.row i }
+    {
+        isd_asn(self.book, usize::from(self.table[self.row + i]))
+    }
+
+    // The AS of entry i stands earlier in the row.
+    fn stands_earlier(&self, i: usize) -> bool
+        requires { i < self.now.count }
+        ensures { result ≡ earlier (place_as self.now.book.now self.now.table.now self.now.row) i }
+    {
+        let a = self.isd_asn(i);
+        for j in 0..i {
+            if self.isd_asn(j) == a {
+                return true;
+            }
         }
-        j += 1;
+        false
     }
-    false
-}
 
-// The same, where the marks of the entries before are given: without the mark of its own it does not.
-fn stands_marked(book: &[u8], table: &[u16; PLACES], row: usize, i: usize, seen: u64) -> bool
-    requires within { Within book.now table.now row (i + 1) }
-    requires marked { Marked (place_as book.now table.now row) seen i }
-    ensures { result ≡ earlier (place_as book.now table.now row) i }
-{
-    if bit(seen, mark(book, wide(table[row + i]))) & 1 == 0 {
-        return false;
-    }
-    stands_earlier(book, table, row, i)
-}
-
-// Of the first `count` entries of a row, the AS of one stands earlier.
-pub(crate) fn passes_twice(book: &[u8], table: &[u16; PLACES], row: usize, count: usize) -> bool
-    requires { Within book.now table.now row count }
-    ensures { result ≡ twice (place_as book.now table.now row) count }
-{
-    let mut seen: u64 = 0;
-    let mut i: usize = 0;
-    while i < count {
-        if stands_marked(book, table, row, i, seen) {
-            return true;
+    // The same, where the entries before are marked: an AS that is not does not stand earlier.
+    fn stands_marked(&self, i: usize, seen: Marks) -> bool
+        requires i_bound { i < self.now.count }
+        requires marked { Marked (place_as self.now.book.now self.now.table.now self.now.row) seen.0 i }
+        ensures { result ≡ earlier (place_as self.now.book.now self.now.table.now self.now.row) i }
+    {
+        if !seen.has(self.isd_asn(i)) {
+            return false;
         }
-        seen = with_bit(seen, mark(book, wide(table[row + i])));
-        i += 1;
+        self.stands_earlier(i)
     }
-    false
+
+    // The AS of some entry does.
+    pub(crate) fn passes_twice(&self) -> bool
+        ensures { result ≡ twice (place_as self.now.book.now self.now.table.now self.now.row) self.now.count }
+    {
+        let mut seen = Marks::none();
+        for i in 0..self.count {
+            if self.stands_marked(i, seen) {
+                return true;
+            }
+            seen = seen.with(self.isd_asn(i));
+        }
+        false
+    }
 }

@@ -10,7 +10,7 @@ use lib.Dec.{ltb}
 use borrow.Author.Tests.{ltb-true, ltb-false}
 use Rattle.sha256.specs.Message.{sha256}
 use Rattle.spec.specs.declared.Edge.{Edge}
-use Rattle.spec.specs.declared.Verdict.TheVariants.{Accepted}
+use Rattle.std.specs.Prelude.{Ok}
 use Rattle.spec.specs.Basics.{padded}
 use Rattle.spec.specs.Octets.{Bytes}
 use Rattle.spec.specs.Book.{verdict}
@@ -29,7 +29,7 @@ use Rattle.combinator.specs.Exports.{isd_asn, Returned, list_returned}
 use Rattle.combinator.specs.Compared.{Compared, Counted}
 use Rattle.combinator.proofs.Demand3.{demand-3}
 
-module _ (b : List ℕ) (bs : Bytes b) (ok : verdict b ≡ Accepted) (src dst bytes : ℕ) (n : (list_returned b src dst bytes).0 < refusals) where
+module _ (b : List ℕ) (bs : Bytes b) (ok : verdict b ≡ Ok tt) (src dst bytes : ℕ) (n : (list_returned b src dst bytes).0 < refusals) where
   abbrev found : List (List Edge)
   found = solutions sha256 b (isd_asn src) (isd_asn dst)
 
@@ -61,10 +61,10 @@ module _ (b : List ℕ) (bs : Bytes b) (ok : verdict b ≡ Accepted) (src dst by
       ∙ ap (λ (x : Comparison). x.order) (compared-chains b (accepted b ok) (get_or found i []) (get_or found j []) (fit i hi) (fit j hj))
       ∙ ap as_order (as-places b found (demand-3 b bs ok src dst).ordered i j hi hj)
 
--- For every accepted book: of two records that `combinator_list` leaves, the comparison answers Before of the earlier, After of the later and Same of one with
+-- For every accepted book: of two records that `combinator_list` leaves, the comparison answers Less of the earlier, Greater of the later and Equal of one with
 -- itself; and the comparison of two solutions is that of their chains, with two fingerprints for each pair of edges at two positions that all earlier keys
 -- leave equal.
-pub compared-as-listed : (b : List ℕ) → Bytes b → verdict b ≡ Accepted → Compared b
+pub compared-as-listed : (b : List ℕ) → Bytes b → verdict b ≡ Ok tt → Compared b
 compared-as-listed b bs ok =
     record {
       listed = λ src dst bytes i j n hi hj.

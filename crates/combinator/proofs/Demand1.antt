@@ -8,17 +8,13 @@ use mathlib.Core.List.{List}
 use lib.ListN.{replicate}
 use Rattle.sha256.specs.Message.{sha256}
 use Rattle.spec.specs.declared.Refusal.{Refusal}
-use Rattle.spec.specs.declared.ListAnswer.{ListAnswer}
-use Rattle.spec.specs.declared.ListAnswer.TheVariants.{Count, Refused as RefusedList}
-use Rattle.spec.specs.declared.PathAnswer.{PathAnswer}
-use Rattle.spec.specs.declared.PathAnswer.TheVariants.{Path, Loop, Bare, Refused as RefusedPath}
-use Rattle.spec.specs.declared.WireAnswer.{WireAnswer}
-use Rattle.spec.specs.declared.WireAnswer.TheVariants.{Count as WireCount, Refused as RefusedWire}
+use Rattle.std.specs.Prelude.{Ok, Err}
+use Rattle.spec.specs.Answers.{ListAnswer, PathAnswer, Listed, Assembled, list_number, path_number, listing, assembly}
+use Rattle.spec.specs.Wire.{WireAnswer, Carried, wire_number, writing, reading}
+use Rattle.spec.specs.declared.Outcome.TheVariants.{Path, Loop, Bare}
 use Rattle.spec.specs.Limits.{max_slots, path_size, wire_size}
 use Rattle.spec.specs.Octets.{Bytes}
-use Rattle.spec.specs.Answers.{Listed, Assembled, list_number, path_number, listing, assembly}
 use Rattle.spec.specs.Routes.{routing}
-use Rattle.spec.specs.Wire.{Carried, wire_number, writing, reading}
 use Rattle.spec.proofs.Demand1.{demand-1 as demand-1-of}
 use Rattle.spec.proofs.WireLaws.{reversible}
 use Rattle.combinator.specs.Exports.{isd_asn, numbered_list, numbered_path, numbered_wire, list_returned, routes_returned, path_returned, write_returned, read_returned}
@@ -26,31 +22,31 @@ use Rattle.combinator.specs.Demand1.{IsRefusal, Demand1}
 use Rattle.combinator.proofs.Returning.{count_most, routes-most}
 
 -- an answer that is no refusal has a low number; one that is, its own
-list_cases : (bytes : ℕ) (l : Listed) → ((n : ℕ) → l.0 ≡ Count n → n ≤ max_slots) → ((r : Refusal) → l.0 ≡ RefusedList r → l.1 ≡ replicate bytes 0)
+list_cases : (bytes : ℕ) (l : Listed) → ((n : ℕ) → l.0 ≡ Ok n → n ≤ max_slots) → ((r : Refusal) → l.0 ≡ Err r → l.1 ≡ replicate bytes 0)
     → (list_number l.0 ≤ max_slots) ⊎ IsRefusal bytes (list_number l.0, l.1)
 list_cases bytes l most zeros = go l.0 refl
   where
     go : (a : ListAnswer) → l.0 ≡ a → (list_number l.0 ≤ max_slots) ⊎ IsRefusal bytes (list_number l.0, l.1)
-    go (Count n) q = inl (omega (arith, ap list_number q, most n q))
-    go (RefusedList r) q = inr (r, ap₂ (λ n o. (n, o)) (ap list_number q) (zeros r q))
+    go (Ok n) q = inl (omega (arith, ap list_number q, most n q))
+    go (Err r) q = inr (r, ap₂ (λ n o. (n, o)) (ap list_number q) (zeros r q))
 
-path-cases : (bytes : ℕ) (p : Assembled) → ((p.0 ≡ Path → ⊥) → p.1 ≡ replicate bytes 0)
+path-cases : (bytes : ℕ) (p : Assembled) → ((p.0 ≡ Ok Path → ⊥) → p.1 ≡ replicate bytes 0)
     → (path_number p.0 ≤ 2) ⊎ IsRefusal bytes (path_number p.0, p.1)
 path-cases bytes p zeros = go p.0 refl
   where
     go : (a : PathAnswer) → p.0 ≡ a → (path_number p.0 ≤ 2) ⊎ IsRefusal bytes (path_number p.0, p.1)
-    go Path q = inl (omega (arith, ap path_number q))
-    go Loop q = inl (omega (arith, ap path_number q))
-    go Bare q = inl (omega (arith, ap path_number q))
-    go (RefusedPath r) q = inr (r, ap₂ (λ n o. (n, o)) (ap path_number q) (zeros (λ e. omega (arith, ap path_number q, ap path_number e))))
+    go (Ok Path) q = inl (omega (arith, ap path_number q))
+    go (Ok Loop) q = inl (omega (arith, ap path_number q))
+    go (Ok Bare) q = inl (omega (arith, ap path_number q))
+    go (Err r) q = inr (r, ap₂ (λ n o. (n, o)) (ap path_number q) (zeros (λ e. omega (arith, ap path_number q, ap path_number e))))
 
-wire-cases : (bytes most : ℕ) (w : Carried) → ((n : ℕ) → w.0 ≡ WireCount n → n ≤ most) → ((r : Refusal) → w.0 ≡ RefusedWire r → w.1 ≡ replicate bytes 0)
+wire-cases : (bytes most : ℕ) (w : Carried) → ((n : ℕ) → w.0 ≡ Ok n → n ≤ most) → ((r : Refusal) → w.0 ≡ Err r → w.1 ≡ replicate bytes 0)
     → (wire_number w.0 ≤ most) ⊎ IsRefusal bytes (wire_number w.0, w.1)
 wire-cases bytes most w low zeros = go w.0 refl
   where
     go : (a : WireAnswer) → w.0 ≡ a → (wire_number w.0 ≤ most) ⊎ IsRefusal bytes (wire_number w.0, w.1)
-    go (WireCount n) q = inl (omega (arith, ap wire_number q, low n q))
-    go (RefusedWire r) q = inr (r, ap₂ (λ n o. (n, o)) (ap wire_number q) (zeros r q))
+    go (Ok n) q = inl (omega (arith, ap wire_number q, low n q))
+    go (Err r) q = inr (r, ap₂ (λ n o. (n, o)) (ap wire_number q) (zeros r q))
 
 pub demand-1 : (b : List ℕ) → Bytes b → (src dst : ℕ) (given : List ℕ) (bytes : ℕ) → Demand1 b src dst given bytes
 unfolding list_returned routes_returned path_returned write_returned read_returned numbered_list numbered_path numbered_wire

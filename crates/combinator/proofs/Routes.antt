@@ -6,8 +6,7 @@ use native.Mathlib.Omega.{arith}
 use mathlib.Core.Path.{◌≡◌, refl, sym, ap, ap₂, ◌∙◌, subst}
 use mathlib.Core.Bool.{Bool, true, false, false≢true}
 use mathlib.Core.List.Memᴰ
-use mathlib.Core.List.Memᴰ.{head}
-use mathlib.Core.List.Memᴰ.{tail}
+use mathlib.Core.List.Memᴰ.{head, tail}
 use mathlib.Core.List.{List, [], ◌∷◌, map, Memᴰ as Mem}
 use lib.ListN.{length}
 use lib.Dec.{eqb}
@@ -15,10 +14,9 @@ use borrow.Author.Tests.{eq-eqb, ne_eqb}
 use Rattle.sha256.specs.Message.{sha256}
 use Rattle.spec.specs.declared.Edge.{Edge}
 use Rattle.spec.specs.declared.Path.{Path as PathHead}
-use Rattle.spec.specs.declared.Verdict.TheVariants.{Accepted}
-use Rattle.spec.specs.declared.ListAnswer.{ListAnswer}
-use Rattle.spec.specs.declared.ListAnswer.TheVariants.{Count, Refused as RefusedList}
-use Rattle.spec.specs.declared.PathAnswer.TheVariants.{Path}
+use Rattle.std.specs.Prelude.{Ok, Err}
+use Rattle.spec.specs.Answers.{ListAnswer, Assembled, refusals, list_number, listing}
+use Rattle.spec.specs.declared.Outcome.TheVariants.{Path}
 use Rattle.spec.specs.Limits.{path_size}
 use Rattle.spec.specs.Basics.{padded, Once}
 use Rattle.spec.specs.Octets.{Bytes}
@@ -26,7 +24,6 @@ use Rattle.spec.specs.Book.{verdict}
 use Rattle.spec.specs.Order.{solutions}
 use Rattle.spec.specs.Assembly.{combined_path, outcome}
 use Rattle.spec.specs.Records.{path_octets, path_head, path_head_in, interfaces_in}
-use Rattle.spec.specs.Answers.{Assembled, refusals, list_number, listing}
 use Rattle.spec.specs.Printed.{is_path, has_path}
 use Rattle.spec.specs.Routes.{route_of, lasts_to, with_path, routes, routing}
 use Rattle.spec.specs.RouteDemand.{appearances, Best}
@@ -55,8 +52,8 @@ module _ (b : List ℕ) (src dst bytes : ℕ) where
     where
       go : (a : ListAnswer) → (listing sha256 b (isd_asn src) (isd_asn dst) bytes).0 ≡ a
           → numbered_list (routing sha256 b (isd_asn src) (isd_asn dst) bytes) ≡ numbered_list (listing sha256 b (isd_asn src) (isd_asn dst) bytes)
-      go (Count n) q = absurd (omega (arith, ap list_number q, count_most b src dst bytes _ _ refl n q))
-      go (RefusedList r) q =
+      go (Ok n) q = absurd (omega (arith, ap list_number q, count_most b src dst bytes _ _ refl n q))
+      go (Err r) q =
           ap numbered_list
           (routing-refused sha256 b (isd_asn src) (isd_asn dst) bytes r q
           ∙ sym (ap₂ (λ x (l : List ℕ). (x, l)) q (list-refused sha256 b (isd_asn src) (isd_asn dst) bytes r q)))
@@ -67,8 +64,8 @@ module _ (b : List ℕ) (src dst bytes : ℕ) where
     where
       go : (a : ListAnswer) → (listing sha256 b (isd_asn src) (isd_asn dst) bytes).0 ≡ a
           → list_number (routing sha256 b (isd_asn src) (isd_asn dst) bytes).0 ≡ length (routes b (solutions sha256 b (isd_asn src) (isd_asn dst)))
-      go (Count n) q = ap list_number (routing-counted sha256 b (isd_asn src) (isd_asn dst) bytes n q)
-      go (RefusedList r) q = absurd (omega (arith, ap list_number q))
+      go (Ok n) q = ap list_number (routing-counted sha256 b (isd_asn src) (isd_asn dst) bytes n q)
+      go (Err r) q = absurd (omega (arith, ap list_number q))
 
 -- ---- functions that agree on the elements of a list
 
@@ -78,7 +75,7 @@ map_on f g (x ∷ xs) h = ap₂ (λ y ys. y ∷ ys) (h x (head refl)) (map_on f 
 
 -- ---- what is returned for a solution's record
 
-module _ (b : List ℕ) (bs : Bytes b) (ok : verdict b ≡ Accepted) (src dst : ℕ) where
+module _ (b : List ℕ) (bs : Bytes b) (ok : verdict b ≡ Ok tt) (src dst : ℕ) where
   abbrev found : List (List Edge)
   found = solutions sha256 b (isd_asn src) (isd_asn dst)
 
@@ -90,7 +87,7 @@ module _ (b : List ℕ) (bs : Bytes b) (ok : verdict b ≡ Accepted) (src dst : 
   unfolding path_returned numbered_path has_path
   zero_has c m q =
       let e = assembly-chain b (isd_asn src) (isd_asn dst) path_size ok (le_refl path_size) c (solutions-sound sha256 b (isd_asn src) (isd_asn dst) c m) in
-      ap is_path (first_of b path_size c ∙ sym (ap (λ (x : Assembled). x.0) e) ∙ zero-path _ q)
+      ap is_path (sym (first_of b path_size c) ∙ sym (ap (λ (x : Assembled). x.0) e) ∙ zero-path _ q)
 
   module _ (c : List Edge) (m : Mem c found) (h : has_path b c ≡ true) where
     outcome-path : outcome (combined_path b c) ≡ Path
@@ -151,7 +148,7 @@ module _ (b : List ℕ) (bs : Bytes b) (ok : verdict b ≡ Accepted) (src dst : 
       route-by d n g q = sym (its-route d n g) ∙ q ∙ its-route c m h
 
 -- For every accepted book, every source and every destination.
-pub routes-hold : (b : List ℕ) → Bytes b → verdict b ≡ Accepted → (src dst : ℕ) → Routes b src dst
+pub routes-hold : (b : List ℕ) → Bytes b → verdict b ≡ Ok tt → (src dst : ℕ) → Routes b src dst
 unfolding list_returned routes_returned numbered_list
 routes-hold b bs ok src dst =
     let w = hold-of sha256 b ok (isd_asn src) (isd_asn dst) in

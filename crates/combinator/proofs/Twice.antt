@@ -6,9 +6,8 @@ use mathlib.Core.Bool.{true}
 use mathlib.Core.List.{List}
 use Rattle.sha256.specs.Message.{sha256}
 use Rattle.spec.specs.declared.Refusal.{Refusal}
-use Rattle.spec.specs.declared.Verdict.{Verdict}
-use Rattle.spec.specs.declared.Verdict.TheVariants.{Accepted, Refused}
-use Rattle.spec.specs.Book.{segment_count, passes_twice, verdict}
+use Rattle.std.specs.Prelude.{Ok, Err}
+use Rattle.spec.specs.Book.{Verdict, segment_count, passes_twice, verdict}
 use Rattle.spec.specs.Chains.{chains}
 use Rattle.spec.specs.Order.{solutions}
 use Rattle.spec.specs.Answers.{refused_list, refused_path, listing_on, listing, assembly_on, assembly}
@@ -20,7 +19,7 @@ use Rattle.combinator.specs.Exports.{isd_asn, numbered_list, numbered_path, list
 use Rattle.combinator.specs.Twice.{AllRefuse}
 
 -- the refusal of a book is the answer of every function: 11 too
-pub all-refuse : (b : List ℕ) (r : Refusal) → verdict b ≡ Refused r → AllRefuse b r
+pub all-refuse : (b : List ℕ) (r : Refusal) → verdict b ≡ Err r → AllRefuse b r
 unfolding list_returned routes_returned path_returned numbered_list numbered_path listing routing assembly refused_list refused_path
 all-refuse b r q =
     record {
@@ -34,5 +33,5 @@ pub twice-refused : (b : List ℕ) (k : ℕ) → k < segment_count b → passes_
 twice-refused b k h t = go (verdict b) refl
   where
     go : (v : Verdict) → verdict b ≡ v → (r : Refusal) × AllRefuse b r
-    go Accepted q = not-both t (not-twice b (accepted b q) k h)
-    go (Refused r) q = (r, all-refuse b r q)
+    go (Ok tt) q = not-both t (not-twice b (accepted b q) k h)
+    go (Err r) q = (r, all-refuse b r q)

@@ -4,8 +4,7 @@ use Prim.Native.Nat.{ℕ, ◌≤◌, ◌<◌}
 use native.Mathlib.Omega.{arith}
 use mathlib.Core.Path.{◌≡◌, refl, sym, ap, ◌∙◌, subst}
 use mathlib.Core.Bool.{Bool, true, false}
-use mathlib.Core.List.Memᴰ.{head}
-use mathlib.Core.List.Memᴰ.{tail}
+use mathlib.Core.List.Memᴰ.{head, tail}
 use mathlib.Core.List.{List, [], ◌∷◌, Memᴰ as Mem}
 use lib.ListN.{take}
 use lib.Dec.{ltb}
@@ -13,21 +12,17 @@ use borrow.Author.Tests.{ltb-false}
 use Rattle.spec.specs.declared.IsdAsn.{IsdAsn}
 use Rattle.spec.specs.declared.Edge.{Edge}
 use Rattle.spec.specs.declared.Refusal.TheVariants.{Small}
-use Rattle.spec.specs.declared.Verdict.{Verdict}
-use Rattle.spec.specs.declared.Verdict.TheVariants.{Accepted, Refused as RefusedBook}
-use Rattle.spec.specs.declared.PathAnswer.TheVariants.{Path}
-use Rattle.spec.specs.declared.WireAnswer.{WireAnswer}
-use Rattle.spec.specs.declared.WireAnswer.TheVariants.{Count, Refused}
+use Rattle.std.specs.Prelude.{Ok, Err, if◌then◌else◌}
+use Rattle.spec.specs.Book.{Verdict, verdict}
+use Rattle.spec.specs.Wire.{WireAnswer, Carried, wire_number, wire_router_ids, writing, reading}
+use Rattle.spec.specs.declared.Outcome.TheVariants.{Path}
 use Rattle.spec.specs.Limits.{path_size, wire_size}
-use Rattle.std.specs.Prelude.{if◌then◌else◌}
 use Rattle.spec.specs.Basics.{same_list}
 use Rattle.spec.specs.Octets.{Bytes}
-use Rattle.spec.specs.Book.{verdict}
 use Rattle.spec.specs.Chains.{chains, IsChain}
 use Rattle.spec.specs.Records.{solution_octets}
 use Rattle.spec.specs.Router.{infos_in, hops_in}
 use Rattle.spec.specs.Answers.{refusals, refused_path, path_answer, path_of_record, assembly_on, assembly}
-use Rattle.spec.specs.Wire.{Carried, wire_number, wire_router_ids, writing, reading}
 use Rattle.spec.specs.WireDemand.{front, WireAgrees}
 use Rattle.spec.proofs.ChainLaws.{chains-sound}
 use Rattle.spec.proofs.AnswerLaws.{same_list-eq}
@@ -37,65 +32,65 @@ use Rattle.combinator.specs.WireDemand.{counted, OnWire, RoundTrip}
 use Rattle.combinator.proofs.Demand3.{zero-path}
 
 -- a number below the refusals' is a count
-count_of : (a : WireAnswer) → wire_number a < refusals → (n : ℕ) × (a ≡ Count n)
-count_of (Count n) h = (n, refl)
-count_of (Refused r) h = absurd (omega arith)
+count_of : (a : WireAnswer) → wire_number a < refusals → (n : ℕ) × (a ≡ Ok n)
+count_of (Ok n) h = (n, refl)
+count_of (Err r) h = absurd (omega arith)
 
 -- what a count counts
-counted-front : (c : Carried) (n : ℕ) → c.0 ≡ Count n → counted (numbered_wire c) ≡ front n c
+counted-front : (c : Carried) (n : ℕ) → c.0 ≡ Ok n → counted (numbered_wire c) ≡ front n c
 unfolding numbered_wire
 counted-front c n q = ap (λ a. take (wire_number a) c.1) q
 
-within : (a : WireAnswer) (n : ℕ) → n ≤ wire_size → a ≡ Count n → wire_number a ≤ wire_size
+within : (a : WireAnswer) (n : ℕ) → n ≤ wire_size → a ≡ Ok n → wire_number a ≤ wire_size
 within a n h q = let e : wire_number a ≡ n = ap wire_number q in omega arith
 
-few : (a : WireAnswer) (n : ℕ) → n ≤ path_size → a ≡ Count n → wire_number a < refusals
+few : (a : WireAnswer) (n : ℕ) → n ≤ path_size → a ≡ Ok n → wire_number a < refusals
 few a n h q = let e : wire_number a ≡ n = ap wire_number q in omega arith
 
 -- ---- what assembly is given where it leaves a path
 
 -- the record of one of the chains
-record_of_lem : (b : List ℕ) (bytes : ℕ) (given : List ℕ) (cs : List (List Edge)) → (path_of_record b bytes given cs).0 ≡ Path
+record_of_lem : (b : List ℕ) (bytes : ℕ) (given : List ℕ) (cs : List (List Edge)) → (path_of_record b bytes given cs).0 ≡ Ok Path
     → (c : List Edge) × Mem c cs × (given ≡ solution_octets c)
 unfolding path_of_record refused_path
 record_of_lem b bytes given [] q = let z : ◌≡◌ {A = ℕ} 0 1 = cc in absurd (omega arith)
 record_of_lem b bytes given (c ∷ cs) q = go (same_list given (solution_octets c)) refl q (record_of_lem b bytes given cs)
   where
-    go : (t : Bool) → same_list given (solution_octets c) ≡ t → (if t then path_answer b bytes c else path_of_record b bytes given cs).0 ≡ Path
-        → ((path_of_record b bytes given cs).0 ≡ Path → (d : List Edge) × Mem d cs × (given ≡ solution_octets d)) → (d : List Edge) × Mem d (c ∷ cs) × (given ≡ solution_octets d)
+    go : (t : Bool) → same_list given (solution_octets c) ≡ t → (if t then path_answer b bytes c else path_of_record b bytes given cs).0 ≡ Ok Path
+        → ((path_of_record b bytes given cs).0 ≡ Ok Path → (d : List Edge) × Mem d cs × (given ≡ solution_octets d)) → (d : List Edge) × Mem d (c ∷ cs) × (given ≡ solution_octets d)
     go true e q ih = (c, head refl, same_list-eq given (solution_octets c) e)
     go false e q ih = let w = ih q in (w.0, tail w.1, w.2)
 
 module _ (b : List ℕ) (src dst : IsdAsn) (given : List ℕ) (bytes : ℕ) where
   -- an accepted book, an output that is not Small, a chain's record
   record Left : Type 0 where
-    ok : verdict b ≡ Accepted
+    ok : verdict b ≡ Ok tt
     big : path_size ≤ bytes
     chain : List Edge
     is-chain : IsChain b src dst chain
     of-chain : given ≡ solution_octets chain
 
-  left : (assembly b src dst given bytes).0 ≡ Path → Left
+  left : (assembly b src dst given bytes).0 ≡ Ok Path → Left
   unfolding assembly refused_path
   left q = go (verdict b) refl q
     where
-      big-by : (t : Bool) → ltb bytes path_size ≡ t → verdict b ≡ Accepted
-          → (if t then refused_path bytes Small else path_of_record b bytes given (chains b src dst)).0 ≡ Path → Left
+      big-by : (t : Bool) → ltb bytes path_size ≡ t → verdict b ≡ Ok tt
+          → (if t then refused_path bytes Small else path_of_record b bytes given (chains b src dst)).0 ≡ Ok Path → Left
       big-by true e ok q = let z : ◌≡◌ {A = ℕ} 0 1 = cc in absurd (omega arith)
       big-by false e ok q =
           let w = record_of_lem b bytes given (chains b src dst) q in
           record { ok = ok; big = ltb-false bytes path_size e; chain = w.0; is-chain = chains-sound b src dst w.0 w.1; of-chain = w.2 }
 
-      go : (v : Verdict) → verdict b ≡ v → (assembly_on v b bytes given (chains b src dst)).0 ≡ Path → Left
-      go Accepted e q = big-by (ltb bytes path_size) refl e q
-      go (RefusedBook r) e q = let z : ◌≡◌ {A = ℕ} 0 1 = cc in absurd (omega arith)
+      go : (v : Verdict) → verdict b ≡ v → (assembly_on v b bytes given (chains b src dst)).0 ≡ Ok Path → Left
+      go (Ok tt) e q = big-by (ltb bytes path_size) refl e q
+      go (Err r) e q = let z : ◌≡◌ {A = ℕ} 0 1 = cc in absurd (omega arith)
 
 -- Whatever the book, the two ends, the record and the output: a path that assembly leaves goes on the wire, and leads a router by the ids of its segments.
 pub on-wire : (b : List ℕ) → Bytes b → (src dst : ℕ) (given : List ℕ) (bytes room : ℕ) → wire_size ≤ room
     → (path_returned b src dst given bytes).0 ≡ 0 → OnWire b src dst given bytes room
 unfolding path_returned numbered_path write_returned numbered_wire
 on-wire b bs src dst given bytes room enough q =
-    let p : (assembly b (isd_asn src) (isd_asn dst) given bytes).0 ≡ Path = zero-path _ q in
+    let p : (assembly b (isd_asn src) (isd_asn dst) given bytes).0 ≡ Ok Path = zero-path _ q in
     let l : Left b (isd_asn src) (isd_asn dst) given bytes = left b (isd_asn src) (isd_asn dst) given bytes p in
     let c : List Edge = l.chain in
     let r : List ℕ = solution_octets c in

@@ -3,6 +3,7 @@
 -- Assumes nothing.
 use Prim.Native.Nat.{ℕ, ◌*◌, ◌≤◌, ◌<◌, compare}
 use Rattle.std.specs.Prelude.{◌≡◌, List, length}
+use Rattle.std.specs.Ordering.{is_le}
 use Rattle.sha256.specs.Message.{sha256}
 use Rattle.spec.specs.declared.Edge.{Edge}
 use Rattle.spec.specs.Limits.{max_edges}
@@ -14,7 +15,7 @@ use Rattle.spec.specs.Records.{record_edge, solution_octets}
 use Rattle.spec.specs.ByRecord.{needs_digests}
 use Rattle.spec.specs.Answers.{refusals}
 use Rattle.order.specs.Records.{record_at}
-use Rattle.order.specs.Order.{clipped, as_order, not_after, comparison, leq_slots}
+use Rattle.order.specs.Order.{clipped, as_order, comparison, leq_slots}
 use Rattle.combinator.specs.Exports.{isd_asn, list_returned}
 
 -- of an accepted book
@@ -34,4 +35,4 @@ pub record Counted (b r s : List ℕ) : Type 0 where
   -- none where all positions agree
   pub none : ((k : ℕ) → k < max_edges → (record_edge r k).position ≡ (record_edge s k).position) → (comparison b r s).digests ≡ 0
   -- the order by which listing sorts
-  pub sorts : leq_slots b r s ≡ not_after (comparison b r s).order
+  pub sorts : leq_slots b r s ≡ is_le (comparison b r s).order

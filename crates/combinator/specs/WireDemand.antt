@@ -1,9 +1,8 @@
 -- The writer and the reader over the exported functions, as statements about the definitions that their contracts are equations with: a number below
 -- 65,536 is the count of the bytes, of which those after it are zero.
 -- Assumes nothing.
-use Rattle.std.specs.Prelude.{ℕ, ◌+◌, ◌*◌, ◌≤◌, ◌<◌, ◌≡◌, List, length, take}
+use Rattle.std.specs.Prelude.{ℕ, ◌+◌, ◌*◌, ◌≤◌, ◌<◌, ◌≡◌, List, length, take, Ok}
 use Rattle.spec.specs.declared.Edge.{Edge}
-use Rattle.spec.specs.declared.Verdict.TheVariants.{Accepted}
 use Rattle.spec.specs.Limits.{path_head_size, info_size, hop_size, path_size, meta_size, wire_info_size, wire_hop_size, wire_size}
 use Rattle.spec.specs.Basics.{padded}
 use Rattle.spec.specs.Octets.{Bytes}
@@ -23,7 +22,7 @@ counted x = take x.0 x.1
 -- demand 3 of the bytes on the wire, whatever was given to `combinator_assemble`: where it leaves a path, the book is accepted and the record is a chain's;
 -- `combinator_write` takes the path, and a router fed the bytes written, and nothing else, holds at each hop the id of the segment
 pub record OnWire (b : List ℕ) (src dst : ℕ) (given : List ℕ) (bytes room : ℕ) : Type 0 where
-  pub accepted : verdict b ≡ Accepted
+  pub accepted : verdict b ≡ Ok tt
   pub chain : List Edge
   pub is-chain : IsChain b (isd_asn src) (isd_asn dst) chain
   pub of-chain : given ≡ solution_octets chain

@@ -1,57 +1,35 @@
 -- Equal segments: what each test of the comparison settles, and the turns of its loop.
 -- Assumes nothing.
 use mathlib.Core.Path.{◌≡◌, refl, sym, ap, ap₂, ◌∙◌}
-use mathlib.Core.Bool.{Bool, true, false, ◌&&◌}
+use mathlib.Core.Bool.{Bool, true, false, ◌&&◌, beq}
 use mathlib.Core.List.{List, [], ◌∷◌}
-use Prim.Native.Nat.{ℕ, suc, ◌+◌, ◌-◌, ◌≤◌, ◌<◌, min}
+use Prim.Native.Nat.{ℕ, ◌+◌, ◌-◌, ◌≤◌, ◌<◌, min}
 use native.Mathlib.Omega.{arith}
-use lib.ListN.{length, get_or, take, drop, length-take, length-drop, drop_of_length-le}
-use lib.Seq.{drop-cons, take_all}
+use lib.ListN.{length, take, drop, length-drop, drop_of_length-le}
+use lib.Seq.{take_all}
 use lib.Dec.{ltb, eqb}
+use lib.Pointwise.{pointwise}
 use borrow.Author.Tests.{ltb-true, ltb-false, eq-eqb, ne_eqb}
 use Rattle.spec.specs.Basics.{same_list}
 use Rattle.spec.specs.Book.{cores, timestamp_at, id_at, body_length_at, body_offset, segment_at}
 use Rattle.spec.specs.Edges.{same_bool, same_segment}
 use Rattle.equal.specs.Same.{same_parts}
-use Rattle.segment.proofs.Positions.{one_less}
 
--- ---- bytes
+-- ---- equality of the code
 
--- a part of at least one byte starts with the byte at its offset
-part-cons : (b : List ℕ) (i n : ℕ) → i < length b → take (suc n) (drop i b) ≡ get_or b i 0 ∷ take n (drop (suc i) b)
-part-cons b i n h = ap (take (suc n)) (drop-cons b i 0 h)
+pub bools-same : (a b : Bool) → beq a b ≡ same_bool a b
+unfolding same_bool
+bools-same true true = refl
+bools-same true false = refl
+bools-same false true = refl
+bools-same false false = refl
 
--- the n bytes at i and at j, less the first m
-pub same_from : List ℕ → ℕ → ℕ → ℕ → ℕ → Bool
-same_from b i j n m = same_parts b (i + m) (n - m) (j + m) (n - m)
-
-pub from_start : (b : List ℕ) (i j n : ℕ) → same_parts b i n j n ≡ same_from b i j n 0
-unfolding same_from
-from_start b i j n =
-    let e : i + 0 ≡ i = omega arith in
-    let f : j + 0 ≡ j = omega arith in
-    let g : n - 0 ≡ n = omega arith in
-    rw (e, f, g)
-
-module _ (b : List ℕ) (i j n m : ℕ) where
-  turn : m < n → i + n ≤ length b → j + n ≤ length b
-      → same_from b i j n m ≡ (eqb (get_or b (i + m) 0) (get_or b (j + m) 0) && same_from b i j n (m + 1))
-  unfolding same_from same_parts same_list
-  turn h g l =
-      let e : suc (i + m) ≡ i + (m + 1) = omega arith in
-      let f : suc (j + m) ≡ j + (m + 1) = omega arith in
-      rw (one_less n m h, part-cons b (i + m) (n - (m + 1)) (omega arith), part-cons b (j + m) (n - (m + 1)) (omega arith), e, f)
-
-  pub bytes_next : m < n → i + n ≤ length b → j + n ≤ length b → get_or b (i + m) 0 ≡ get_or b (j + m) 0
-      → same_from b i j n m ≡ same_from b i j n (m + 1)
-  bytes_next h g l e = turn h g l ∙ rw (eq-eqb (get_or b (i + m) 0) (get_or b (j + m) 0) e)
-
-  pub bytes-differ : m < n → i + n ≤ length b → j + n ≤ length b → (get_or b (i + m) 0 ≡ get_or b (j + m) 0 → ⊥) → same_from b i j n m ≡ false
-  bytes-differ h g l e = turn h g l ∙ rw (ne_eqb (get_or b (i + m) 0) (get_or b (j + m) 0) e)
-
-  pub bytes_same : n ≤ m → same_from b i j n m ≡ true
-  unfolding same_from same_parts same_list
-  bytes_same h = let e : n - m ≡ 0 = omega arith in rw e
+lists-same : (xs ys : List ℕ) → pointwise eqb xs ys ≡ same_list xs ys
+unfolding same_list
+lists-same [] [] = refl
+lists-same [] (y ∷ ys) = refl
+lists-same (x ∷ xs) [] = refl
+lists-same (x ∷ xs) (y ∷ ys) = ap (λ t. eqb x y && t) (lists-same xs ys)
 
 -- ---- parts, as much of them as lies in the book
 
@@ -88,38 +66,19 @@ part-least b i n p u e f =
     g : min n (length (drop p b)) ≡ min n (length b - p)
     g = rw length-drop
 
-part_length : (b : List ℕ) (n p u : ℕ) → u ≡ min n (length b - p) → length (take u (drop p b)) ≡ u
-part_length b n p u e = simp (length-take, length-drop) (omega arith)
-
-same_length : (xs ys : List ℕ) → same_list xs ys ≡ true → length xs ≡ length ys
-unfolding same_list
-same_length [] [] q = refl
-same_length [] (y ∷ ys) q = let z : ◌≡◌ {A = ℕ} 0 1 = cc in absurd (omega arith)
-same_length (x ∷ xs) [] q = let z : ◌≡◌ {A = ℕ} 0 1 = cc in absurd (omega arith)
-same_length (x ∷ xs) (y ∷ ys) q = ap suc (same_length xs ys (go (eqb x y) (same_list xs ys) q))
-  where
-    go : (s t : Bool) → (s && t) ≡ true → t ≡ true
-    go true t p = p
-    go false t p = let z : ◌≡◌ {A = ℕ} 0 1 = cc in absurd (omega arith)
-
 pub false-from : (t : Bool) → (t ≡ true → ⊥) → t ≡ false
 false-from true f = absurd (f refl)
 false-from false f = refl
 
-module _ (b : List ℕ) (i m j n p u q v : ℕ) (ep : p ≡ min i (length b)) (eu : u ≡ min m (length b - p)) (eq : q ≡ min j (length b)) (ev : v ≡ min n (length b - q)) where
-  parts-least : same_parts b i m j n ≡ same_parts b p u q v
+module _ (b : List ℕ) (i m j n p u q v : ℕ) where
+  pub parts-same : p ≡ min i (length b) → u ≡ min m (length b - p) → q ≡ min j (length b) → v ≡ min n (length b - q)
+      → pointwise eqb (take (p + u - p) (drop p b)) (take (q + v - q) (drop q b)) ≡ same_parts b i m j n
   unfolding same_parts
-  parts-least = ap₂ same_list (part-least b i m p u ep eu) (part-least b j n q v eq ev)
-
-  pub parts-bytes : u ≡ v → same_parts b i m j n ≡ same_parts b p u q u
-  parts-bytes e = parts-least ∙ ap (same_parts b p u q) (sym e)
-
-  pub parts-differ : (u ≡ v → ⊥) → same_parts b i m j n ≡ false
-  unfolding same_parts
-  parts-differ d =
-      parts-least
-      ∙ false-from (same_list (take u (drop p b)) (take v (drop q b))) (λ r.
-      d (sym (part_length b m p u eu) ∙ same_length (take u (drop p b)) (take v (drop q b)) r ∙ part_length b n q v ev))
+  parts-same ep eu eq ev =
+      let e : p + u - p ≡ u = omega arith in
+      let f : q + v - q ≡ v = omega arith in
+      ap₂ (λ k l. pointwise eqb (take k (drop p b)) (take l (drop q b))) e f
+      ∙ lists-same (take u (drop p b)) (take v (drop q b)) ∙ sym (ap₂ same_list (part-least b i m p u ep eu) (part-least b j n q v eq ev))
 
 -- ---- segments
 

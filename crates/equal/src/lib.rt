@@ -2,51 +2,17 @@
 // book's end reads as 0.
 #![tactic(auto)]
 
-ghost use Rattle.std.specs.Prelude.{◌≡◌, ◌+◌, ◌^◌, ◌≤◌, ◌<◌, min, length, ltb};
+ghost use Rattle.std.specs.Prelude.{◌≡◌, ltb};
 ghost use Rattle.spec.specs.Book.{cores, id_at, segment_at};
 ghost use Rattle.spec.specs.Edges.{same_bool, same_segment};
 ghost use Rattle.equal.specs.Same.{same_parts};
-
-fn wide(x: u16) -> usize
-    ensures { (result ≡ x) × (result < 2 ^ 16) }
-{
-    x as usize
-}
-
-fn least(a: usize, b: usize) -> usize
-    ensures { result ≡ min a b }
-{
-    if a < b { a } else { b }
-}
-
-fn same_bool(a: bool, b: bool) -> bool
-    ensures { result ≡ same_bool a b }
-{
-    if a { b } else { !b }
-}
 
 // The segments at j and k are of the same kind: cores come first.
 fn same_kind(book: &[u8], j: u8, k: u8) -> bool
     ensures { result ≡ same_bool (ltb j (cores book.now)) (ltb k (cores book.now)) }
 {
     let cores = segment::sizes(book).cores;
-    same_bool((j as u16) < cores, (k as u16) < cores)
-}
-
-// The n bytes at i and those at j are the same.
-fn same_bytes(book: &[u8], i: usize, j: usize, n: usize) -> bool
-    requires n_in_bounds { i + n ≤ length book.now }
-    requires n_in_bounds_2 { j + n ≤ length book.now }
-    ensures { result ≡ same_parts book.now i n j n }
-{
-    let mut m: usize = 0;
-    while m < n {
-        if book[i + m] != book[j + m] {
-            return false;
-        }
-        m += 1;
-    }
-    true
+    (u16::from(j) < cores) == (u16::from(k) < cores)
 }
 
 // The m bytes at i and the n at j are the same; of either only those that lie in the book.
@@ -54,14 +20,11 @@ fn same_parts(book: &[u8], i: usize, m: usize, j: usize, n: usize) -> bool
     ensures { result ≡ same_parts book.now i m j n }
 {
     let size = book.len();
-    let p = least(i, size);
-    let q = least(j, size);
-    let u = least(m, size - p);
-    let v = least(n, size - q);
-    if u != v {
-        return false;
-    }
-    same_bytes(book, p, q, u)
+    let p = i.min(size);
+    let q = j.min(size);
+    let u = m.min(size - p);
+    let v = n.min(size - q);
+    book[p..p + u] == book[q..q + v]
 }
 
 // The segments at j and k, which have the same id, are equal.
@@ -75,8 +38,8 @@ fn same_rest(book: &[u8], j: u8, k: u8) -> bool
     if !same_kind(book, j, k) {
         return false;
     }
-    let m = wide(segment::body_length(book, j));
-    let n = wide(segment::body_length(book, k));
+    let m = usize::from(segment::body_length(book, j));
+    let n = usize::from(segment::body_length(book, k));
     let at_j = segment::body_offset(book, j);
     let at_k = segment::body_offset(book, k);
     same_parts(book, at_j, m, at_k, n)

@@ -20,7 +20,9 @@ use Rattle.spec.proofs.BookLaws.{AcceptedBook, entry-count}
 use Rattle.spec.proofs.OctetLaws.{be16s-bytes, be64-bytes}
 use Rattle.spec.proofs.BodyLaws.{offset-shift}
 use Rattle.output.specs.Write.{written}
-use Rattle.output.proofs.Writing.{written-pair, written-within, octets2-length, octets8-length}
+use borrow.Rule.Slice.PartMut.{put_mid}
+use Rattle.output.proofs.Writing.{written-pair, written-within, written-length, octets2-length, octets8-length}
+use Rattle.output.proofs.Copied.{copied_part}
 use Rattle.sha256.specs.Message.{sha256}
 use Rattle.fingerprint.specs.Print.{input_size, inputs}
 
@@ -116,10 +118,14 @@ module _ (b : List ℕ) (bytes : Bytes b) where
       rw (append_assoc, e, be64-bytes b bytes at (omega arith), be16s-bytes b bytes (at + 14) (omega arith))
 
   -- the two parts of an entry, copied one after the other
-  pub entry-copied : (m : List ℕ) (place at : ℕ) → at + entry_size ≤ length b
-      → written (written m place (take 8 (drop at b))) (place + 8) (take 4 (drop (at + 14) b)) ≡ written m place (entry_input (entry_at b at))
-  entry-copied m place at h =
-      written-pair m place 8 (take 8 (drop at b)) (take 4 (drop (at + 14) b)) (length-take-le 8 (drop at b) (simp length-drop (omega arith)))
+  pub entry-copied : (m : List ℕ) (place at k l i j : ℕ) (xs ys : List ℕ) → xs ≡ take i (drop at b) → i ≡ 8 → k ≡ 8 → ys ≡ take j (drop (at + 14) b) → j ≡ 4 → l ≡ 4
+      → at + entry_size ≤ length b → place + input_size ≤ length m → put_mid (place + 8) l (put_mid place k m xs) ys ≡ written m place (entry_input (entry_at b at))
+  entry-copied m place at k l i j xs ys e p q f r s h g =
+      let first : put_mid place k m xs ≡ written m place (take 8 (drop at b)) = copied_part m place k b at i 8 xs e p q (omega arith) (omega arith) in
+      let room : place + 8 + 4 ≤ length (put_mid place k m xs) = omega (arith, ap length first, written-length m place (take 8 (drop at b))) in
+      copied_part (put_mid place k m xs) (place + 8) l b (at + 14) j 4 ys f r s (omega arith) room
+      ∙ ap (λ t. written t (place + 8) (take 4 (drop (at + 14) b))) first
+      ∙ written-pair m place 8 (take 8 (drop at b)) (take 4 (drop (at + 14) b)) (length-take-le 8 (drop at b) (simp length-drop (omega arith)))
       ∙ ap (written m place) (sym (input-parts at h))
 
 -- the next entry is written at its place
@@ -132,9 +138,3 @@ written-more m b start i at h e q =
     let f : length (take (input_size * i) m ++ x) ≡ input_size * (i + 1) = simp (length-append, length-take) (omega arith) in
     rw (written-within m (input_size * i) x (omega arith), take_at (take (input_size * i) m ++ x) (drop (input_size * i + length x) m) (input_size * (i + 1)) f)
     (ap₂ (λ (s t : List ℕ). s ++ t) q (ap (λ o. entry_input (entry_at b o)) e) ∙ sym (ap (inputs b start) (add-one i) ∙ inputs-more b start i))
-
--- after the last entry
-pub written_all : (m : List ℕ) (b : List ℕ) (i n start : ℕ) → i ≤ n → n ≤ i → take (input_size * i) m ≡ inputs b start i → take (input_size * n) m ≡ inputs b start n
-written_all m b i n start h g q =
-    let e : i ≡ n = omega arith in
-    rw (← e) q

@@ -2,7 +2,7 @@
 // any bytes: what lies past the book's end reads as 0.
 #![tactic(auto)]
 
-ghost use Rattle.std.specs.Prelude.{◌≡◌, ◌+◌, ◌*◌, ◌^◌, ◌≤◌, ◌<◌, min, length, take, drop};
+ghost use Rattle.std.specs.Prelude.{◌≡◌, ◌+◌, ◌*◌, ◌^◌, ◌≤◌, ◌<◌, length, take};
 ghost use Rattle.spec.specs.Limits.{max_entries};
 ghost use Rattle.spec.specs.Book.{segment_at, entry_at};
 ghost use Rattle.spec.specs.Order.{entry_input, fingerprint_input};
@@ -31,30 +31,6 @@ const INGRESS: u8 = AsEntry::INGRESS as u8;
 
 const EGRESS: u8 = AsEntry::EGRESS as u8;
 
-fn wide(x: u16) -> usize
-    ensures { (result ≡ x) × (result < 2 ^ 16) }
-{
-    x as usize
-}
-
-fn least(a: usize, b: usize) -> usize
-    ensures { result ≡ min a b }
-{
-    if a < b { a } else { b }
-}
-
-// Copies n bytes of `src` from index `from` on over those of `dst` from index `at` on.
-fn copy(src: &[u8], from: usize, dst: &mut [u8], at: usize, n: usize)
-    requires { (from + n ≤ length src.now) × (at + n ≤ length dst.old) }
-    ensures { dst.new ≡ written dst.old at (take n (drop from src.now)) }
-{
-    let mut j = 0;
-    while j < n {
-        dst[at + j] = src[from + j];
-        j += 1;
-    }
-}
-
 // Writes what the entry at an offset gives, from `place` on, number by number: the book may end within it.
 fn put_numbers(book: &[u8], message: &mut [u8], place: usize, at: usize)
     requires { place < 2 ^ 32 }
@@ -75,8 +51,9 @@ fn put_entry(book: &[u8], message: &mut [u8], place: usize, at: usize)
     ensures { message.new ≡ written message.old place (entry_input (entry_at book.now at)) }
 {
     if at + AsEntry::SIZE <= book.len() {
-        copy(book, at, message, place, AS);
-        copy(book, at + AsEntry::INGRESS, message, place + AS, IDS);
+        let ids = at + AsEntry::INGRESS;
+        message[place..place + AS].copy_from_slice(&book[at..at + AS]);
+        message[place + AS..place + INPUT].copy_from_slice(&book[ids..ids + IDS]);
     } else {
         put_numbers(book, message, place, at);
     }
@@ -90,11 +67,9 @@ fn message(book: &[u8], start: usize, count: usize) -> [u8; MESSAGE]
 {
     let mut m = [0u8; MESSAGE];
     let mut at = start;
-    let mut i: usize = 0;
-    while i < count {
+    for i in 0..count {
         put_entry(book, &mut m, INPUT * i, at);
         at += segment::entry_size(book, at);
-        i += 1;
     }
     m
 }
@@ -103,8 +78,7 @@ fn message(book: &[u8], start: usize, count: usize) -> [u8; MESSAGE]
 pub fn fingerprint(book: &[u8], k: u8) -> [u8; 32]
     ensures { result ≡ sha256 (take (input_size * max_entries) (fingerprint_input (segment_at book.now k))) }
 {
-    let count = least(Limits::ENTRIES, wide(segment::entry_count(book, k)));
+    let count = Limits::ENTRIES.min(usize::from(segment::entry_count(book, k)));
     let m = message(book, segment::body_offset(book, k), count);
-    let n = INPUT * count;
-    sha256::sha256(&m[..n])
+    sha256::sha256(&m[..INPUT * count])
 }

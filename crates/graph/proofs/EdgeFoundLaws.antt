@@ -1,17 +1,14 @@
 -- Which edge a non-core segment stores from a vertex to an AS, by what the code is told of it.
 -- Assumes nothing.
 use Prim.Native.Nat.{ℕ, ◌-◌, ◌≤◌, ◌<◌}
-use native.Mathlib.Omega.{arith}
-use mathlib.Core.Path.{◌≡◌, refl, sym, ap, ◌∙◌}
+use mathlib.Core.Path.{◌≡◌, sym, ap, ◌∙◌}
 use mathlib.Core.Bool.{Bool, true, false}
 use mathlib.Core.List.{List, [], ◌∷◌}
-use lib.Dec.{ltb}
-use borrow.Author.Tests.{ltb-true, ltb-false}
 use Rattle.spec.specs.declared.IsdAsn.{IsdAsn}
 use Rattle.spec.specs.declared.Vertex.{Vertex}
 use Rattle.spec.specs.declared.Vertex.TheVariants.{AS, Peering}
 use Rattle.spec.specs.declared.Edge.{Edge}
-use Rattle.std.specs.Prelude.{if◌then◌else◌}
+use Rattle.std.specs.Prelude.{Option, Some, None}
 use Rattle.spec.specs.Book.{same_as, Segment, segment_at}
 use Rattle.spec.specs.Edges.{leaf_as, in_construction}
 use Rattle.spec.specs.Loopless.{Apart}
@@ -20,84 +17,75 @@ use Rattle.spec.proofs.Vertices.{same_as-eq}
 use Rattle.graph.specs.declared.vertices.Link.{Link}
 use Rattle.graph.specs.declared.edges.EdgeFound.{EdgeFound}
 use Rattle.graph.specs.Lookup.{between}
-use Rattle.graph.specs.Leaving.{entry_count, is_entry_of, entry_with, peer_linked, as_edge_at, down_peer_edge}
+use Rattle.graph.specs.Leaving.{entry_count, entry_with, peer_linked, as_edge_at, down_peer_edge}
 use Rattle.graph.specs.Link.{end_of}
 use Rattle.graph.specs.EdgeFound.{whole_edge, whole_edges}
-use Rattle.graph.proofs.LookupScan.{first-le}
 use Rattle.graph.proofs.LookupLaws.{as-eq, eq-same_as, as-not-peering}
 use Rattle.graph.proofs.EdgeReads.{leaf-arrives, as-made, as_none, peer-made, peer-past, peer-missing, to-as, to-link, from-as, from-none}
 
 -- ---- found or not
 
-module _ (k : ℕ) (v : Vertex) (w : IsdAsn) (j : EdgeFound) where
-  whole-nothing : j.found ≡ false → whole_edges k v w j ≡ []
+module _ (k : ℕ) (v : Vertex) (w : IsdAsn) (j : Option EdgeFound) where
+  whole-nothing : j ≡ None → whole_edges k v w j ≡ []
   unfolding whole_edges
-  whole-nothing q = ap (λ t. if t then whole_edge k v w j ∷ [] else []) q
-
-  whole-found : j.found ≡ true → whole_edges k v w j ≡ whole_edge k v w j ∷ []
-  unfolding whole_edges
-  whole-found q = ap (λ t. if t then whole_edge k v w j ∷ [] else []) q
+  whole-nothing q = ap (whole_edges k v w) q
 
   -- none where there is none
-  pub whole-none : {l : List Edge} → j.found ≡ false → [] ≡ l → whole_edges k v w j ≡ l
+  pub whole-none : {l : List Edge} → j ≡ None → [] ≡ l → whole_edges k v w j ≡ l
   whole-none q p = whole-nothing q ∙ p
 
-  pub none-whole : {l : List Edge} → whole_edges k v w j ≡ l → j.found ≡ false → [] ≡ l
+  pub none-whole : {l : List Edge} → whole_edges k v w j ≡ l → j ≡ None → [] ≡ l
   none-whole p q = sym (whole-nothing q) ∙ p
 
-  pub edge-whole : {l : List Edge} {e : Edge} → whole_edges k v w j ≡ l → j.found ≡ true → e ≡ whole_edge k v w j → (e ∷ []) ≡ l
-  edge-whole p q r = ap (λ x. x ∷ []) r ∙ sym (whole-found q) ∙ p
+  pub edge-whole : {l : List Edge} {e : Edge} {x : EdgeFound} → whole_edges k v w j ≡ l → j ≡ Some x → e ≡ whole_edge k v w x → (e ∷ []) ≡ l
+  unfolding whole_edges
+  edge-whole p q r = ap (λ x. x ∷ []) r ∙ sym (ap (whole_edges k v w) q) ∙ p
 
 -- a vertex that is an AS
-pub whole-at : (seg : Segment) (k : ℕ) (w : IsdAsn) (j : EdgeFound) {v : Vertex} {a : IsdAsn} → v ≡ AS a → whole_edges k (AS a) w j ≡ between seg (AS a) (AS w)
+pub whole-at : (seg : Segment) (k : ℕ) (w : IsdAsn) (j : Option EdgeFound) {v : Vertex} {a : IsdAsn} → v ≡ AS a → whole_edges k (AS a) w j ≡ between seg (AS a) (AS w)
     → whole_edges k v w j ≡ between seg v (AS w)
 whole-at seg k w j at p = ap (λ x. whole_edges k x w j) at ∙ p ∙ ap (λ x. between seg x (AS w)) (sym at)
 
 -- ---- as the code makes them
 
-abbrev joined : Bool → Bool → ℕ → ℕ → ℕ → EdgeFound
-joined f c i q weight = record { found = f; construction = c; shortcut = i; peer = q; weight = weight }
+abbrev joined : Bool → ℕ → ℕ → ℕ → EdgeFound
+joined c i q weight = record { construction = c; shortcut = i; peer = q; weight = weight }
 
 module _ (b : List ℕ) (k : ℕ) (nc : (segment_at b k).core ≡ false) {n : ℕ} (count : n ≡ entry_count (segment_at b k)) where
   abbrev seg : Segment
   seg = segment_at b k
 
   module _ (a : IsdAsn) {i : ℕ} (found : i ≡ entry_with seg a (n - 1)) where
-    pub as-within : i ≤ n - 1
-    unfolding entry_with
-    as-within = omega (arith, first-le (is_entry_of seg a) 0 (n - 1))
-
-    pub as-joined : (c : Bool) (v : Vertex) (w : IsdAsn) → c ≡ in_construction seg (AS w)
-        → whole_edges k v w (joined (ltb i (n - 1)) c i 0 (n - 1 - i)) ≡ as_edge_at seg v (AS w) (entry_with seg a (n - 1))
+    pub as-joined : i < n - 1 → (c : Bool) (v : Vertex) (w : IsdAsn) → c ≡ in_construction seg (AS w)
+        → whole_edges k v w (Some (joined c i 0 (n - 1 - i))) ≡ as_edge_at seg v (AS w) (entry_with seg a (n - 1))
     unfolding whole_edges whole_edge
-    as-joined c v w p = go (ltb i (n - 1)) refl
-      where
-        go : (t : Bool) → ltb i (n - 1) ≡ t → whole_edges k v w (joined t c i 0 (n - 1 - i)) ≡ as_edge_at seg v (AS w) (entry_with seg a (n - 1))
-        go true q = as-made b k v (AS w) n i count _ c false found (ltb-true _ _ q) p (sym nc)
-        go false q = as_none b k v (AS w) n i count _ found (ltb-false _ _ q)
+    as-joined h c v w p = as-made b k v (AS w) n i count _ c false found h p (sym nc)
+
+    pub as-none : n - 1 ≤ i → (j : Option EdgeFound) → j ≡ None → (v : Vertex) (w : IsdAsn) → whole_edges k v w j ≡ as_edge_at seg v (AS w) (entry_with seg a (n - 1))
+    as-none h j f v w = whole-none k v w j f (as_none b k v (AS w) n i count _ found h)
 
   module _ (l : Link) {i : ℕ} (found : i ≡ entry_with seg l.local n) where
-    pub link-joined : {q : ℕ} → i < n → q ≡ peer_linked seg (end_of l) i → (v : Vertex) (w : IsdAsn) → true ≡ in_construction seg (AS w)
-        → whole_edges k v w (joined (ltb 0 q) true i q (n - 1 - i)) ≡ down_peer_edge seg v (AS w) l
+    pub link-joined : {q : ℕ} → i < n → q ≡ peer_linked seg (end_of l) i → 0 < q → (v : Vertex) (w : IsdAsn) → true ≡ in_construction seg (AS w)
+        → whole_edges k v w (Some (joined true i q (n - 1 - i))) ≡ down_peer_edge seg v (AS w) l
     unfolding whole_edges whole_edge
-    link-joined {q} g f v w p = go (ltb 0 q) refl
-      where
-        go : (t : Bool) → ltb 0 q ≡ t → whole_edges k v w (joined t true i q (n - 1 - i)) ≡ down_peer_edge seg v (AS w) l
-        go true e = peer-made b k v (AS w) n i count l found q true false f g (ltb-true _ _ e) p (sym nc)
-        go false e = peer-missing b k v (AS w) n i count l found q f (ltb-false _ _ e)
+    link-joined {q} g f e v w p = peer-made b k v (AS w) n i count l found q true false f g e p (sym nc)
 
-    pub link-none : (j : EdgeFound) → n ≤ i → j.found ≡ false → (v : Vertex) (w : IsdAsn) → whole_edges k v w j ≡ down_peer_edge seg v (AS w) l
+    pub link-missing : {q : ℕ} → q ≡ peer_linked seg (end_of l) i → q ≤ 0 → (j : Option EdgeFound) → j ≡ None → (v : Vertex) (w : IsdAsn)
+        → whole_edges k v w j ≡ down_peer_edge seg v (AS w) l
+    link-missing {q} f e j z v w = whole-none k v w j z (peer-missing b k v (AS w) n i count l found q f e)
+
+    pub link-none : (j : Option EdgeFound) → n ≤ i → j ≡ None → (v : Vertex) (w : IsdAsn) → whole_edges k v w j ≡ down_peer_edge seg v (AS w) l
     link-none j g f v w = whole-none k v w j f (peer-past b k v (AS w) n i count l found g)
 
 -- ---- one of the two is the leaf
 
 module _ (seg : Segment) (nc : seg.core ≡ false) {n : ℕ} (count : n ≡ entry_count seg) (k : ℕ) (v : Vertex) (w : IsdAsn) {leaf : IsdAsn} (last : leaf ≡ leaf_as seg)
-    (j : EdgeFound) {u : Bool} (test : u ≡ same_as leaf w) where
+    (j : Option EdgeFound) {u : Bool} (test : u ≡ same_as leaf w) where
   at_leaf : (a : IsdAsn) {u t : Bool} → u ≡ same_as leaf a → u ≡ t → same_as (leaf_as seg) a ≡ t
   at_leaf a p q = ap (λ x. same_as x a) (sym last) ∙ sym p ∙ q
 
   module _ {l p : IsdAsn} {i o : ℕ} (at : v ≡ Peering l i p o) where
-    pub join-other : u ≡ false → j.found ≡ false → whole_edges k v w j ≡ between seg v (AS w)
+    pub join-other : u ≡ false → j ≡ None → whole_edges k v w j ≡ between seg v (AS w)
     join-other q f = whole-none k v w j f (from-none seg w nc n count (at_leaf w test q) v (λ e. as-not-peering (e ∙ at)))
 
     abbrev link : Link
@@ -123,7 +111,7 @@ module _ (seg : Segment) (nc : seg.core ≡ false) {n : ℕ} (count : n ≡ entr
           f v w (leaf-arrives seg w false (at_leaf w test q))
           ∙ from-as seg w nc n count (at_leaf w test q) v (at ∙ ap AS (sym (same_as-eq _ _ (at_leaf a p s))))
 
-      pub join-none : t ≡ false → j.found ≡ false → whole_edges k v w j ≡ between seg v (AS w)
+      pub join-none : t ≡ false → j ≡ None → whole_edges k v w j ≡ between seg v (AS w)
       join-none s f =
           whole-none k v w j f
           (from-none seg w nc n count (at_leaf w test q) v (λ e. not-both (eq-same_as _ _ (as-eq (e ∙ at))) (at_leaf a p s)))

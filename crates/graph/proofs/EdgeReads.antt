@@ -1,5 +1,6 @@
 -- The edges that the code makes of what it reads of a segment are those that it stores.
 -- Assumes nothing.
+use Rattle.std.proofs.lemmas.Bool.{and_from}
 use Prim.Native.Nat.{ℕ, ◌+◌, ◌-◌, ◌≤◌, ◌<◌}
 use native.Mathlib.Omega.{arith}
 use mathlib.Core.Path.{◌≡◌, refl, sym, ap, ap₂, ◌∙◌, subst}
@@ -15,7 +16,7 @@ use Rattle.std.specs.Prelude.{if◌then◌else◌}
 use Rattle.spec.specs.Basics.{filter, range}
 use Rattle.spec.specs.Book.{same_as, Segment, segment_at}
 use Rattle.spec.specs.Edges.{same_vertex, as_of, leaf_as, in_construction, edge_of}
-use Rattle.spec.proofs.Membership.{true-and, not-both}
+use Rattle.spec.proofs.Membership.{not-both}
 use Rattle.spec.proofs.RouterLaws.{eqb-sym}
 use Rattle.spec.proofs.Vertices.{same_as-eq, same_vertex-eq, same_vertex-refl, eq-same_vertex}
 use Rattle.spec.proofs.OnceLaws.{any-mem, segment-position}
@@ -30,6 +31,14 @@ use Rattle.graph.specs.Link.{end_of}
 use Rattle.graph.proofs.LookupScan.{when, any-first, first_passes, last-above}
 use Rattle.graph.proofs.LookupLaws.{as-eq, eq-same_as, sole, up-as, down-as, down-link, no-leaf, core-as, core-peering, core-leaving, none-stored}
 use Rattle.graph.proofs.OpenedReads.{leaf-is}
+
+-- a test of two fails by its first, or by its second
+pub first-not : {x : Bool} (y : Bool) → x ≡ false → (x && y) ≡ false
+first-not y q = ap (λ t. t && y) q
+
+pub second-not : (x : Bool) {y : Bool} → y ≡ false → (x && y) ≡ false
+second-not true q = q
+second-not false q = refl
 
 -- two ASes and two others
 module _ (first last a c : IsdAsn) where
@@ -88,7 +97,7 @@ module _ (b : List ℕ) (k : ℕ) where
       peer-made q c t f g some p s =
           ap (λ x. x ∷ []) (edge-made v w (n - 1 - i) i q c t p s)
           ∙ ap₂ (λ m o. edge_of seg v w (m - 1 - i) i o ∷ []) count f
-          ∙ sym (ap (λ x. when x (down i)) (true-and (ltb i (entry_count seg)) _ (lt-ltb i (entry_count seg) (omega arith)) (lt-ltb 0 (peer_linked seg (end_of l) i) (omega arith))))
+          ∙ sym (ap (λ x. when x (down i)) (and_from (ltb i (entry_count seg)) _ (lt-ltb i (entry_count seg) (omega arith)) (lt-ltb 0 (peer_linked seg (end_of l) i) (omega arith))))
           ∙ down-at
 
       pub peer-past : n ≤ i → [] ≡ down_peer_edge seg v w l

@@ -11,14 +11,13 @@ use lib.ListN.{length, get_or, set, take, drop, replicate, length-take, length-d
 use lib.Seq.{get_or-set_same, get_or-set_other, get_or-take, get_or-drop}
 use lib.Dec.{ltb, eqb}
 use borrow.Author.Tests.{ltb-true, ltb-false, lt-ltb, le-ltb, eqb-true}
-use Rattle.spec.specs.declared.Verdict.TheVariants.{Accepted}
+use Rattle.std.specs.Prelude.{Ok}
 use Rattle.spec.specs.Limits.{sizes_size, head_size, entry_size, peer_size, peer_count_offset, max_segments, max_entries}
-use Rattle.std.specs.Prelude.{if◌then◌else◌}
 use Rattle.spec.specs.Basics.{any, range, same_list}
 use Rattle.spec.specs.Octets.{be16, be32, be64}
 use Rattle.spec.specs.Book.{Segment, segments, segment_at, cores, segment_count, head_offset, whole_length, timestamp_at, id_at, entry_count_at, body_length_at, body_offset, peer_count, entry_end, entry_offset, verdict}
 use Rattle.spec.specs.Edges.{same_bool, same_segment, is_earlier, is_first}
-use Rattle.spec.proofs.Membership.{and-true, mem-map}
+use Rattle.spec.proofs.Membership.{and-true, mem-map, not-both}
 use Rattle.spec.proofs.OnceLaws.{any-mem, segment-position}
 use Rattle.spec.proofs.BookLaws.{AcceptedBook, accepted, entry-count, mem-range}
 use Rattle.spec.proofs.BodyLaws.{body_end, body-filled, entry_place}
@@ -44,15 +43,15 @@ row-elsewhere b at start (suc n) table j other =
     get_or-set_other (with_row b at start n table) (start + n) j (entry_offset b at n) 0 (λ e. other n (omega arith) (sym e))
     ∙ row-elsewhere b at start n table j (λ i l. other i (omega arith))
 
-zeros : (n j : ℕ) → ◌≡◌ {A = ℕ} (get_or (replicate n 0) j 0) 0
-zeros zero j = refl
-zeros (suc n) zero = refl
-zeros (suc n) (suc j) = zeros n j
+same : {A : Type 0} (x : A) (n j : ℕ) → get_or (replicate n x) j x ≡ x
+same x zero j = refl
+same x (suc n) zero = refl
+same x (suc n) (suc j) = same x n j
 
 rows_none : (b : List ℕ) (n : ℕ) → ((i : ℕ) → i < n → entry_count_at b i ≤ max_entries) → (k : ℕ) → entry_count_at b k ≡ 0
     → get_or (rows_below b n) (max_entries * k) 0 ≡ 0
 unfolding rows_below
-rows_none b zero few k none = unfold no_offsets in zeros (max_segments * max_entries) (max_entries * k)
+rows_none b zero few k none = unfold no_offsets in same 0 (max_segments * max_entries) (max_entries * k)
 rows_none b (suc n) few k none =
     row-elsewhere b (body_offset b n) (max_entries * n) (entry_count_at b n) (rows_below b n) (max_entries * k) other
     ∙ rows_none b n (λ i l. few i (omega arith)) k none
@@ -68,12 +67,12 @@ pub head_read : (b : List ℕ) (k : ℕ) {x : ℕ} → x ≡ be64 b (sizes_size 
 unfolding head_word_at head_offset
 head_read b k e = e
 
-pub head-within : (b : List ℕ) → verdict b ≡ Accepted → (k : ℕ) → k < segment_count b → sizes_size + head_size * k + 8 ≤ length b
+pub head-within : (b : List ℕ) → verdict b ≡ Ok tt → (k : ℕ) → k < segment_count b → sizes_size + head_size * k + 8 ≤ length b
 unfolding whole_length head_offset
 head-within b ok k h = let w = (accepted b ok).whole in omega arith
 
 -- a book of two segments is that long
-pub two_bytes : (b : List ℕ) → verdict b ≡ Accepted → (k : ℕ) → k < segment_count b → 0 < k → word_end ≤ length b
+pub two_bytes : (b : List ℕ) → verdict b ≡ Ok tt → (k : ℕ) → k < segment_count b → 0 < k → word_end ≤ length b
 two_bytes b ok k h l = omega (arith, head-within b ok k h)
 
 -- numbers in a part of the book
@@ -347,43 +346,43 @@ same-mark s t q =
     ∙ ap (λ l. (t.timestamp + t.id + get_or l egress_low 0 + get_or l mac_last 0) % 256) p.2
 
 module _ (b : List ℕ) (k : ℕ) where
-  pub unseen-first : (w : List ℕ) → Seen b k w → {m : ℕ} → m ≡ mark_of (segment_at b k) → get_or w m 0 ≡ 0 → is_first (segments b) (segment_at b k) ≡ true
+  pub unseen-first : (w : List Bool) → Seen b k w → {m : ℕ} → m ≡ mark_of (segment_at b k) → get_or w m false ≡ false → is_first (segments b) (segment_at b k) ≡ true
   unseen-first w s e z =
-      first-if b k (λ i h. false-from _ (λ q. omega (arith, s.marked i h, ap (λ j. get_or w j 0) (e ∙ same-mark _ _ q))))
+      first-if b k (λ i h. false-from _ (λ q. not-both (ap (λ j. get_or w j false) (e ∙ same-mark _ _ q) ∙ s.marked i h) z))
 
   -- where a mark is seen there is a segment before
-  pub seen_bytes : (w : List ℕ) → Seen b k w → verdict b ≡ Accepted → k < segment_count b → (m : ℕ) → (get_or w m 0 ≡ 0 → ⊥) → word_end ≤ length b
-  seen_bytes w s ok h m d = two_bytes b ok k h (positive k (λ z. d (s.empty z m)))
+  pub seen_bytes : (w : List Bool) → Seen b k w → verdict b ≡ Ok tt → k < segment_count b → (m : ℕ) → get_or w m false ≡ true → word_end ≤ length b
+  seen_bytes w s ok h m d = two_bytes b ok k h (positive k (λ z. not-both d (s.empty z m)))
 
-  pub first-is : {t : Bool} → t ≡ is_first (segments b) (segment_at b k) → (if t then 1 else 0) ≡ first_at b k
+  pub first-is : {t : Bool} → t ≡ is_first (segments b) (segment_at b k) → t ≡ first_at b k
   unfolding first_at
-  first-is q = ap (λ t. if t then 1 else 0) q
+  first-is q = q
 
 -- ---- the turns of the loop over all positions
 
 module _ (b : List ℕ) where
-  pub firsts-start : (w : List ℕ) → Firsts b 0 w
+  pub firsts-start : (w : List Bool) → Firsts b 0 w
   firsts-start w = record { each = λ i h. absurd (omega arith) }
 
-  pub seen_start : (n : ℕ) → Seen b 0 (replicate n 0)
-  seen_start n = record { marked = λ i h. absurd (omega arith); empty = λ z. zeros n }
+  pub seen_start : (n : ℕ) → Seen b 0 (replicate n false)
+  seen_start n = record { marked = λ i h. absurd (omega arith); empty = λ z. same false n }
 
-  pub firsts-all : {k n : ℕ} {w : List ℕ} → Firsts b k w → n ≤ k → Firsts b n w
+  pub firsts-all : {k n : ℕ} {w : List Bool} → Firsts b k w → n ≤ k → Firsts b n w
   firsts-all f l = record { each = λ i h. f.each i (omega arith) }
 
-  module _ (k : ℕ) (w : List ℕ) where
-    pub firsts-turn : Firsts b k w → k < length w → {v : ℕ} → v ≡ first_at b k → Firsts b (k + 1) (set w k v)
+  module _ (k : ℕ) (w : List Bool) where
+    pub firsts-turn : Firsts b k w → k < length w → {v : Bool} → v ≡ first_at b k → Firsts b (k + 1) (set w k v)
     firsts-turn f l {v} q = record { each = λ i h. go i h (ℕ_discrete k i) }
       where
-        go : (i : ℕ) → i < k + 1 → Dec (k ≡ i) → get_or (set w k v) i 0 ≡ first_at b i
-        go i h (yes e) = ap (λ j. get_or (set w k v) j 0) (sym e) ∙ get_or-set_same w k v 0 l ∙ q ∙ ap (first_at b) e
-        go i h (no d) = get_or-set_other w k i v 0 (λ e. d (sym e)) ∙ f.each i (omega arith)
+        go : (i : ℕ) → i < k + 1 → Dec (k ≡ i) → get_or (set w k v) i false ≡ first_at b i
+        go i h (yes e) = ap (λ j. get_or (set w k v) j false) (sym e) ∙ get_or-set_same w k v false l ∙ q ∙ ap (first_at b) e
+        go i h (no d) = get_or-set_other w k i v false (λ e. d (sym e)) ∙ f.each i (omega arith)
 
-    pub seen-turn : Seen b k w → {m : ℕ} → m < length w → m ≡ mark_of (segment_at b k) → Seen b (k + 1) (set w m 1)
+    pub seen-turn : Seen b k w → {m : ℕ} → m < length w → m ≡ mark_of (segment_at b k) → Seen b (k + 1) (set w m true)
     seen-turn s {m} l q =
         record { marked = λ i h. go i h (ℕ_discrete m (mark_of (segment_at b i))) (ℕ_discrete k i); empty = λ z. absurd (omega arith) }
       where
-        go : (i : ℕ) → i < k + 1 → Dec (m ≡ mark_of (segment_at b i)) → Dec (k ≡ i) → get_or (set w m 1) (mark_of (segment_at b i)) 0 ≡ 1
-        go i h (yes e) x = ap (λ j. get_or (set w m 1) j 0) (sym e) ∙ get_or-set_same w m 1 0 l
+        go : (i : ℕ) → i < k + 1 → Dec (m ≡ mark_of (segment_at b i)) → Dec (k ≡ i) → get_or (set w m true) (mark_of (segment_at b i)) false ≡ true
+        go i h (yes e) x = ap (λ j. get_or (set w m true) j false) (sym e) ∙ get_or-set_same w m true false l
         go i h (no d) (yes e) = absurd (d (q ∙ ap (λ j. mark_of (segment_at b j)) e))
-        go i h (no d) (no x) = get_or-set_other w m (mark_of (segment_at b i)) 1 0 (λ e. d (sym e)) ∙ s.marked i (omega arith)
+        go i h (no d) (no x) = get_or-set_other w m (mark_of (segment_at b i)) true false (λ e. d (sym e)) ∙ s.marked i (omega arith)

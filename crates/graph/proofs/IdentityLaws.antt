@@ -1,5 +1,6 @@
 -- The stored edge of a segment that has an identity: the identity tells the ends, and so where to look.
 -- Assumes nothing.
+use Rattle.std.proofs.lemmas.Bool.{and_from}
 use Prim.Native.Nat.{ℕ, zero, suc, ◌+◌, ◌-◌, ◌≤◌, ◌<◌}
 use native.Mathlib.Numerals.{add-one}
 use native.Mathlib.Decide.{ℕ_discrete}
@@ -7,11 +8,7 @@ use native.Mathlib.Omega.{arith}
 use mathlib.Core.Path.{◌≡◌, refl, sym, ap, ap₂, ◌∙◌, subst}
 use mathlib.Core.Logic.{◌⊎◌, inl, inr, ⊎_elim}
 use mathlib.Core.Bool.{Bool, true, false, ◌&&◌}
-use mathlib.Core.List.Memᴰ.{append_cases}
-use mathlib.Core.List.Memᴰ.{cases_cons}
-use mathlib.Core.List.Memᴰ.{head}
-use mathlib.Core.List.Memᴰ.{not-nil}
-use mathlib.Core.List.Memᴰ.{tail}
+use mathlib.Core.List.Memᴰ.{append_cases, cases_cons, head, not-nil, tail}
 use mathlib.Core.List.{List, [], ◌∷◌, reverse, Memᴰ as Mem}
 use lib.ListN.{length}
 use lib.Dec.{ltb, eqb}
@@ -25,7 +22,7 @@ use Rattle.spec.specs.Book.{same_as, Segment}
 use Rattle.spec.specs.Edges.{same_vertex, same_bool, entry_of, as_of, leaf_as, in_construction, edge_of, as_insertions, peer_insertions, entry_insertions, insertions, stored_of}
 use Rattle.spec.specs.Order.{solution_edge}
 use Rattle.spec.specs.Loopless.{Apart}
-use Rattle.spec.proofs.Membership.{and-true, true-and, not-both, filter-mem, mem-filter, flat_map-mem, once-filter}
+use Rattle.spec.proofs.Membership.{and-true, not-both, filter-mem, mem-filter, flat_map-mem, once-filter}
 use Rattle.spec.proofs.Vertices.{same_vertex-eq, same_vertex-refl}
 use Rattle.spec.proofs.OnceLaws.{lasting-mem, once-lasting, inserted}
 use Rattle.graph.specs.Lookup.{between}
@@ -64,7 +61,7 @@ has-identity id e h =
 pub own-identity : (e : Edge) → has_identity (solution_edge e) e ≡ true
 unfolding has_identity solution_edge
 own-identity e =
-    true-and _ _ (true-and _ _ (true-and _ _ (eq-eqb e.position _ refl) (eq-eqb e.shortcut _ refl)) (eq-eqb e.peer _ refl)) (bool-refl e.construction)
+    and_from _ _ (and_from _ _ (and_from _ _ (eq-eqb e.position _ refl) (eq-eqb e.shortcut _ refl)) (eq-eqb e.peer _ refl)) (bool-refl e.construction)
 
 -- ---- lists
 

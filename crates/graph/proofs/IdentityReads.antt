@@ -1,5 +1,6 @@
 -- The edges that the code makes of what an identity names.
 -- Assumes nothing.
+use Rattle.std.proofs.lemmas.Bool.{and_from}
 use Prim.Native.Nat.{ℕ, ◌+◌, ◌-◌, ◌<◌}
 use native.Mathlib.Omega.{arith}
 use mathlib.Core.Path.{◌≡◌, refl, sym, ap, ap₂, ◌∙◌}
@@ -15,7 +16,6 @@ use Rattle.spec.specs.Book.{same_as, Segment, segment_at}
 use Rattle.spec.specs.Edges.{as_of, leaf_as, edge_of}
 use Rattle.spec.specs.Order.{solution_edge}
 use Rattle.spec.specs.Loopless.{Apart}
-use Rattle.spec.proofs.Membership.{true-and}
 use Rattle.spec.proofs.Vertices.{same_as-eq, same_as-refl}
 use Rattle.spec.proofs.OnceLaws.{segment-position}
 use Rattle.graph.specs.declared.vertices.Link.{Link}
@@ -51,7 +51,7 @@ module _ (b : List ℕ) (id : SolutionEdge) where
     core-there d =
         core-identified (AS first) (AS last) true (sym d)
         (core-made b id.position core count some refl f l last
-        (joins-first first last first last refl (true-and _ _ (same_as-refl first) (same_as-refl last))) refl (sym (same_as-refl last)))
+        (joins-first first last first last refl (and_from _ _ (same_as-refl first) (same_as-refl last))) refl (sym (same_as-refl last)))
 
     module _ (back : id.construction ≡ false) where
       pub core-one : n ≡ 1 → [] ≡ identified seg id
@@ -75,7 +75,7 @@ module _ (b : List ℕ) (id : SolutionEdge) where
 
           holds : true ≡ joins first last last first
           holds =
-              joins-second first last last first refl (ap (λ y. y && same_as last first) other) (sym (true-and _ _ (same_as-refl last) (same_as-refl first)))
+              joins-second first last last first refl (ap (λ y. y && same_as last first) other) (sym (and_from _ _ (same_as-refl last) (same_as-refl first)))
 
   -- ---- a non-core segment
 

@@ -1,5 +1,6 @@
 -- The stored edges that leave an AS are those that the code walks over, each once.
 -- Assumes nothing.
+use Rattle.std.proofs.lemmas.Bool.{and_from}
 use Prim.Native.Nat.{ℕ, zero, suc, ◌+◌, ◌-◌, ◌<◌}
 use native.Mathlib.Numerals.{add-one}
 use native.Mathlib.Omega.{arith}
@@ -7,10 +8,7 @@ use mathlib.Core.Path.{◌≡◌, refl, sym, ap, ap₂, ◌∙◌, subst}
 use mathlib.Core.Logic.{⊎_elim}
 use mathlib.Core.Bool.{Bool, true, false, ◌&&◌}
 use mathlib.Core.List.Memᴰ
-use mathlib.Core.List.Memᴰ.{append_cases}
-use mathlib.Core.List.Memᴰ.{cases_cons}
-use mathlib.Core.List.Memᴰ.{head}
-use mathlib.Core.List.Memᴰ.{not-nil}
+use mathlib.Core.List.Memᴰ.{append_cases, cases_cons, head, not-nil}
 use mathlib.Core.List.{[], ◌∷◌, flat_map, Memᴰ as Mem}
 use lib.Dec.{ltb, eqb}
 use borrow.Author.Tests.{eqb-true, eq-eqb, ltb-true, lt-ltb}
@@ -24,7 +22,7 @@ use Rattle.spec.specs.Book.{same_as, Segment}
 use Rattle.spec.specs.Edges.{same_vertex, as_of, leaf_as, edge_of, insertions, stored_of}
 use Rattle.spec.specs.Loopless.{Apart}
 use Rattle.spec.specs.Chains.{leaves}
-use Rattle.spec.proofs.Membership.{and-true, true-and, not-both, filter-mem, mem-filter, flat_map-mem, mem-flat_map, once-append, once-filter, once-flat_map}
+use Rattle.spec.proofs.Membership.{and-true, not-both, filter-mem, mem-filter, flat_map-mem, mem-flat_map, once-append, once-filter, once-flat_map}
 use Rattle.spec.proofs.Vertices.{same_as-eq, same_vertex-eq, eq-same_vertex}
 use Rattle.spec.proofs.OnceLaws.{range-mem, once-range, once-lasting}
 use Rattle.spec.proofs.BookLaws.{mem-range}
@@ -161,7 +159,7 @@ module _ (seg : Segment) where
 
   pub peer-edge-some : (v w : Vertex) (weight i q : ℕ) → i < entry_count seg → 0 < q → peer_edge_at seg v w weight i q ≡ edge_of seg v w weight i q ∷ []
   unfolding peer_edge_at
-  peer-edge-some v w weight i q l s = ap (λ x. when x (edge_of seg v w weight i q)) (true-and _ _ (lt-ltb i (entry_count seg) l) (lt-ltb 0 q s))
+  peer-edge-some v w weight i q l s = ap (λ x. when x (edge_of seg v w weight i q)) (and_from _ _ (lt-ltb i (entry_count seg) l) (lt-ltb 0 q s))
 
   -- ---- what is given at an entry
 

@@ -12,14 +12,12 @@ use lib.Seq.{take_at}
 use borrow.Author.Tests.{le-ltb, lt-ltb}
 use Rattle.spec.specs.declared.IsdAsn.{IsdAsn}
 use Rattle.spec.specs.declared.Edge.{Edge}
-use Rattle.spec.specs.declared.Verdict.{Verdict}
-use Rattle.spec.specs.declared.Verdict.TheVariants.{Accepted, Refused as RefusedBook}
+use Rattle.std.specs.Prelude.{Ok, Err}
+use Rattle.spec.specs.Book.{Verdict, verdict}
 use Rattle.spec.specs.declared.Refusal.{Refusal}
 use Rattle.spec.specs.declared.Refusal.TheVariants.{Full}
-use Rattle.spec.specs.declared.ListAnswer.TheVariants.{Count, Refused as RefusedList}
 use Rattle.spec.specs.Limits.{solution_size, max_slots}
 use Rattle.spec.specs.Basics.{padded}
-use Rattle.spec.specs.Book.{verdict}
 use Rattle.spec.specs.Order.{solutions}
 use Rattle.spec.specs.Records.{solution_octets, slots}
 use Rattle.spec.specs.Answers.{Listed, listing, refused_list}
@@ -40,7 +38,7 @@ use Rattle.graph.specs.Pushed.{Slots, pushed}
 use Rattle.graph.proofs.SearchFound.{found-once, found-sound, found-complete, found-length, found-sized}
 use Rattle.graph.proofs.PushedLaws.{pushed-all, pushed-over, pushed-length}
 
-module _ (b : List ℕ) (ok : verdict b ≡ Accepted) (src dst : IsdAsn) (out : List ℕ) where
+module _ (b : List ℕ) (ok : verdict b ≡ Ok tt) (src dst : IsdAsn) (out : List ℕ) where
   abbrev found : List (List Edge)
   found = found_chains b dst src
 
@@ -60,7 +58,7 @@ module _ (b : List ℕ) (ok : verdict b ≡ Accepted) (src dst : IsdAsn) (out : 
 
   -- more chains than slots
   list_full : (n : ℕ) (o : List ℕ) → ◌≡◌ {A = Slots} (n, o) (pushed room (0, out) found) → room < n
-      → listing sha256 b src dst (length out) ≡ (RefusedList Full, replicate (length out) 0)
+      → listing sha256 b src dst (length out) ≡ (Err Full, replicate (length out) 0)
   unfolding refused_list
   list_full n o e h = listing-on sha256 b src dst ok (length out) true (lt-ltb room (length sorted) (go (dec_le (length found) room)))
     where
@@ -96,7 +94,7 @@ module _ (b : List ℕ) (ok : verdict b ≡ Accepted) (src dst : IsdAsn) (out : 
 
   pub list_count : (n : ℕ) (o : List ℕ) → ◌≡◌ {A = Slots} (n, o) (pushed room (0, out) found) → n ≤ room
       → listing sha256 b src dst (length out)
-      ≡ (Count n, zeroed (sort_first (leq_slots b) (min n (slots (length o))) o) (solution_size * n))
+      ≡ (Ok n, zeroed (sort_first (leq_slots b) (min n (slots (length o))) o) (solution_size * n))
   list_count n o e h =
       let few : length found ≤ room = found_all n o e h in
       let st : ◌≡◌ {A = Slots} (n, o) (length found, flat_map solution_octets found ++ drop (solution_size * length found) out) =
@@ -116,31 +114,31 @@ module _ (b : List ℕ) (ok : verdict b ≡ Accepted) (src dst : IsdAsn) (out : 
       ∙ ap₂ (λ x y. x + y) records-length (length-drop (solution_size * length found) o)
       ∙ omega (arith, slots-fit (length out), same_count) in
       listing-on sha256 b src dst ok (length out) false (le-ltb room (length sorted) (omega (arith, same_count)))
-      ∙ ap₂ (λ k l. (Count k, l)) (sym n-sorted)
+      ∙ ap₂ (λ k l. (Ok k, l)) (sym n-sorted)
       (sym (ap (λ l. zeroed l (solution_size * n)) sorts ∙ zeros-after n rest n-sorted whole))
 
   -- ---- as the code has it
 
   pub full-answer : (s n : ℕ) (o zero : List ℕ) → s ≡ room → ◌≡◌ {A = Slots} (n, o) (pushed s (0, out) found) → s < n → zero ≡ zeroed o 0
-      → ◌≡◌ {A = Listed} (RefusedList Full, zero) (listing sha256 b src dst (length out))
+      → ◌≡◌ {A = Listed} (Err Full, zero) (listing sha256 b src dst (length out))
   full-answer s n o zero q e h z =
       let e' : ◌≡◌ {A = Slots} (n, o) (pushed room (0, out) found) = e ∙ ap (λ k. pushed k (0, out) found) q in
       let len : length o ≡ length out = kept-length n o e' in
-      ap (λ l. (RefusedList Full, l)) (z ∙ zeroed-all o ∙ ap (λ k. replicate k 0) len) ∙ sym (list_full n o e' (omega arith))
+      ap (λ l. (Err Full, l)) (z ∙ zeroed-all o ∙ ap (λ k. replicate k 0) len) ∙ sym (list_full n o e' (omega arith))
 
   pub count-answer : (s n : ℕ) (o sorts zero : List ℕ) → s ≡ room → ◌≡◌ {A = Slots} (n, o) (pushed s (0, out) found) → n ≤ s
       → sorts ≡ sort_first (leq_slots b) (min n (slots (length o))) o → zero ≡ zeroed sorts (solution_size * n)
-      → ◌≡◌ {A = Listed} (Count n, zero) (listing sha256 b src dst (length out))
+      → ◌≡◌ {A = Listed} (Ok n, zero) (listing sha256 b src dst (length out))
   count-answer s n o sorts zero q e h k z =
       let e' : ◌≡◌ {A = Slots} (n, o) (pushed room (0, out) found) = e ∙ ap (λ j. pushed j (0, out) found) q in
-      ap (λ l. (Count n, l)) (z ∙ ap (λ l. zeroed l (solution_size * n)) k) ∙ sym (list_count n o e' (omega arith))
+      ap (λ l. (Ok n, l)) (z ∙ ap (λ l. zeroed l (solution_size * n)) k) ∙ sym (list_count n o e' (omega arith))
 
 -- a refused book
-pub refused-answer : (b : List ℕ) (src dst : IsdAsn) (out zero : List ℕ) (v : Verdict) (r : Refusal) → v ≡ verdict b → v ≡ RefusedBook r
-    → zero ≡ zeroed out 0 → ◌≡◌ {A = Listed} (RefusedList r, zero) (listing sha256 b src dst (length out))
+pub refused-answer : (b : List ℕ) (src dst : IsdAsn) (out zero : List ℕ) (v : Verdict) (r : Refusal) → v ≡ verdict b → v ≡ Err r
+    → zero ≡ zeroed out 0 → ◌≡◌ {A = Listed} (Err r, zero) (listing sha256 b src dst (length out))
 unfolding refused_list
 refused-answer b src dst out zero v r p q z =
-    ap (λ l. (RefusedList r, l)) (z ∙ zeroed-all out) ∙ sym (listing-refused b src dst (length out) sha256 r (sym p ∙ q))
+    ap (λ l. (Err r, l)) (z ∙ zeroed-all out) ∙ sym (listing-refused b src dst (length out) sha256 r (sym p ∙ q))
 
 pub slots-most : (bytes : ℕ) → slots bytes ≤ max_slots
 unfolding slots

@@ -1,5 +1,6 @@
 -- What a segment stores between two vertices is the last insertion with these ends; and which that is.
 -- Assumes nothing.
+use Rattle.std.proofs.lemmas.Bool.{and_from}
 use Prim.Native.Nat.{ℕ, zero, suc, ◌+◌, ◌-◌, ◌≤◌, ◌<◌}
 use native.Mathlib.Numerals.{add-one}
 use native.Mathlib.Decide.{ℕ_discrete}
@@ -7,8 +8,7 @@ use native.Mathlib.Omega.{arith}
 use mathlib.Core.Path.{◌≡◌, refl, sym, ap, ap₂, ◌∙◌, subst}
 use mathlib.Core.Logic.{⊎_elim}
 use mathlib.Core.Bool.{Bool, true, false, ◌&&◌, ◌||◌}
-use mathlib.Core.List.Memᴰ.{cases_cons}
-use mathlib.Core.List.Memᴰ.{not-nil}
+use mathlib.Core.List.Memᴰ.{cases_cons, not-nil}
 use mathlib.Core.List.{List, [], ◌∷◌, ◌++◌, flat_map, reverse, Memᴰ as Mem}
 use lib.ListN.{length}
 use lib.Dec.{ltb}
@@ -23,7 +23,7 @@ use Rattle.spec.specs.Book.{same_as, Segment}
 use Rattle.spec.specs.Edges.{same_vertex, as_of, leaf_as, peer_of, edge_of, add_core_segment, as_insertions, peer_insertions, entry_insertions, insertions, same_ends, lasting, stored_of}
 use Rattle.spec.specs.Chains.{leaves}
 use Rattle.spec.specs.Loopless.{Apart}
-use Rattle.spec.proofs.Membership.{and-true, true-and, not-both, filter-mem, mem-filter}
+use Rattle.spec.proofs.Membership.{and-true, not-both, filter-mem, mem-filter}
 use Rattle.spec.proofs.Lists.{reverse-range}
 use Rattle.spec.proofs.Vertices.{same_as-eq, same_as-refl, same_vertex-eq, eq-same_vertex}
 use Rattle.graph.specs.declared.vertices.Link.{Link}
@@ -118,7 +118,7 @@ module _ (v w : Vertex) where
 
   pub eq-ends : (e : Edge) → e.src ≡ v → e.dst ≡ w → has_ends v w e ≡ true
   unfolding has_ends
-  eq-ends e p q = true-and _ _ (eq-same_vertex _ _ p) (eq-same_vertex _ _ q)
+  eq-ends e p q = and_from _ _ (eq-same_vertex _ _ p) (eq-same_vertex _ _ q)
 
   ends_same : (e : Edge) → has_ends v w e ≡ true → (f : Edge) → same_ends e f ≡ has_ends v w f
   unfolding has_ends same_ends

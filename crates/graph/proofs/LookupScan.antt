@@ -1,5 +1,6 @@
 -- The last edge of a list of which a test holds, and the numbers that a scan finds.
 -- Assumes nothing.
+use Rattle.std.proofs.lemmas.Bool.{and_from}
 use Prim.Native.Nat.{ℕ, zero, suc, ◌+◌, ◌-◌, ◌≤◌, ◌<◌}
 use native.Mathlib.Nat.{add-zero}
 use native.Mathlib.Omega.{arith}
@@ -12,7 +13,7 @@ use borrow.Author.Tests.{ltb-true, ltb-false, lt-ltb, le-ltb}
 use Rattle.spec.specs.declared.Edge.{Edge}
 use Rattle.std.specs.Prelude.{if◌then◌else◌}
 use Rattle.spec.specs.Basics.{any, range}
-use Rattle.spec.proofs.Membership.{and-true, true-and, not-both}
+use Rattle.spec.proofs.Membership.{and-true, not-both}
 use Rattle.spec.proofs.Lists.{flat_map-append, range-suc}
 use Rattle.spec.proofs.OnceLaws.{any-mem}
 use Rattle.spec.proofs.BookLaws.{mem-range}
@@ -212,7 +213,7 @@ module _ (p : ℕ → Bool) where
           let m = ltb-true _ _ q in
           let h = first_passes 0 n m in
           let f = only (first_with p 0 n) (omega arith) h in
-          ap (λ k. e k ∷ []) f ∙ sym (ap (λ x. when x (e r)) (true-and (ltb r n) (p r) (lt-ltb r n (omega arith)) (ap p (sym f) ∙ h)))
+          ap (λ k. e k ∷ []) f ∙ sym (ap (λ x. when x (e r)) (and_from (ltb r n) (p r) (lt-ltb r n (omega arith)) (ap p (sym f) ∙ h)))
       go false q = none (any-first 0 n ∙ q) (ltb r n && p r) refl
 
   -- ---- from above

@@ -8,16 +8,15 @@ use mathlib.Core.List.{List}
 use lib.ListN.{length, get_or}
 use lib.Dec.{ltb, eqb}
 use borrow.Author.Tests.{eq-eqb, ne_eqb, le-ltb}
+use Rattle.std.proofs.Math.Bool.{or_comm}
 use Rattle.spec.specs.declared.IsdAsn.{IsdAsn}
 use Rattle.spec.specs.declared.Vertex.TheVariants.{Peering}
 use Rattle.spec.specs.declared.PeerEntry.{PeerEntry}
 use Rattle.spec.specs.declared.Sizes.{Sizes}
-use Rattle.spec.specs.declared.Verdict.{Verdict}
-use Rattle.spec.specs.declared.Verdict.TheVariants.{Accepted}
+use Rattle.std.specs.Prelude.{Ok, if◌then◌else◌}
+use Rattle.spec.specs.Book.{Verdict, same_as, Segment, segment_at, segment_count, sizes_at, head_offset, whole_length, verdict, entry_count_at, body_offset, isd_asn_at, peer_count, peer_entry_at, peer_offset, entry_offset}
 use Rattle.spec.specs.Limits.{sizes_size, head_size, entry_size, peer_size, max_segments, max_entries}
-use Rattle.std.specs.Prelude.{if◌then◌else◌}
 use Rattle.spec.specs.Octets.{be16}
-use Rattle.spec.specs.Book.{same_as, Segment, segment_at, segment_count, sizes_at, head_offset, whole_length, verdict, entry_count_at, body_offset, isd_asn_at, peer_count, peer_entry_at, peer_offset, entry_offset}
 use Rattle.spec.specs.Edges.{same_vertex, as_of, leaf_as, peer_of}
 use Rattle.spec.specs.Loopless.{Apart}
 use Rattle.spec.proofs.Membership.{not-both}
@@ -35,7 +34,7 @@ use Rattle.graph.specs.Link.{end_of, same_peer}
 use Rattle.graph.proofs.LookupScan.{first_more}
 
 -- what `book::open` leaves of an accepted book
-pub opened-ready : (b t : List ℕ) {v : Verdict} → v ≡ verdict b → t ≡ open_table b → v ≡ Accepted → Ready b t
+pub opened-ready : (b t : List ℕ) {v : Verdict} → v ≡ verdict b → t ≡ open_table b → v ≡ Ok tt → Ready b t
 opened-ready b t p e q = record { ok = sym p ∙ q; table = e ∙ open-accepted b p q }
 
 pub count-read : (b : List ℕ) (k : ℕ) → entry_count (segment_at b k) ≡ entry_count_at b k
@@ -187,13 +186,14 @@ module _ (seg : Segment) (a : IsdAsn) where
   pub below_none : false ≡ has_below seg a 0
   below_none = sym (le-ltb (entry_with seg a 0) 0 (unfold entry_with first_with in omega arith))
 
-  pub below-turn : (i : ℕ) {x : IsdAsn} {t u : Bool} → x ≡ as_of seg i → t ≡ has_below seg a i → u ≡ (same_as x a || t) → u ≡ has_below seg a (i + 1)
+  pub below-turn : (i : ℕ) {x : IsdAsn} {t u : Bool} → x ≡ as_of seg i → t ≡ has_below seg a i → u ≡ same_as x a → (t || u) ≡ has_below seg a (i + 1)
   unfolding entry_with is_entry_of
-  below-turn i {x} {t} p q r =
+  below-turn i {x} {t} {u} p q r =
       let e : i ≡ 0 + i = omega arith in
       let e' : suc i ≡ i + 1 = omega arith in
       let z : 0 + suc i ≡ suc i = omega arith in
-      r
+      or_comm t u
+      ∙ ap (λ y. y || t) r
       ∙ ap (λ y. same_as y a || t) p
       ∙ ap (λ y. is_entry_of seg a i || y) q
       ∙ ap (λ m. is_entry_of seg a m || ltb (first_with (is_entry_of seg a) 0 i) m) e
@@ -211,14 +211,14 @@ pub core-read : (b : List ℕ) (k : ℕ) {x : Sizes} → x ≡ sizes_at b → lt
 unfolding sizes_at segment_at
 core-read b k q = ap (λ (y : Sizes). ltb k y.cores) q
 
-pub count_most : (b : List ℕ) → verdict b ≡ Accepted → (k : ℕ) → k < segment_count b → entry_count (segment_at b k) ≤ max_entries
+pub count_most : (b : List ℕ) → verdict b ≡ Ok tt → (k : ℕ) → k < segment_count b → entry_count (segment_at b k) ≤ max_entries
 count_most b a k h = omega (arith, count-read b k, entry-count b (accepted b a) k h)
 
 -- in an accepted book the count is its low byte, which lies within the book; where, past the heads before its own
 abbrev count_low : ℕ
 count_low = sizes_size + 7
 
-module _ (b : List ℕ) (a : verdict b ≡ Accepted) (k : ℕ) (h : k < segment_count b) where
+module _ (b : List ℕ) (a : verdict b ≡ Ok tt) (k : ℕ) (h : k < segment_count b) where
   pub count-place : count_low + head_size * k < length b
   unfolding whole_length head_offset
   count-place = let w = (accepted b a).whole in omega arith

@@ -1,11 +1,11 @@
--- The bytes of a solution's record, and the record of a chain pushed.
+-- The record of a chain, pushed.
 -- Assumes nothing.
 use Prim.Native.Nat.{ℕ, ◌+◌, ◌*◌, ◌-◌, ◌≤◌, ◌<◌}
 use native.Mathlib.Omega.{arith}
-use mathlib.Core.Path.{◌≡◌, sym, ap, ◌∙◌, subst}
-use mathlib.Core.List.{List, [], ◌∷◌, ◌++◌, map}
-use lib.ListN.{length, get_or, set, take, drop, replicate}
-use lib.Seq.{take_all}
+use mathlib.Core.Path.{◌≡◌, sym, ap, ap₂, ◌∙◌, subst}
+use mathlib.Core.List.{List, [], ◌∷◌, ◌++◌, map, append_assoc}
+use lib.ListN.{length, take, drop, replicate}
+use lib.Seq.{drop-drop}
 use Rattle.spec.specs.declared.Edge.{Edge}
 use Rattle.spec.specs.declared.SolutionEdge.{SolutionEdge}
 use Rattle.spec.specs.declared.Solution.{Solution}
@@ -13,9 +13,7 @@ use Rattle.spec.specs.Limits.{max_edges, solution_size}
 use Rattle.spec.specs.Order.{cost, solution_edge}
 use Rattle.spec.specs.Records.{no_edge, solution_of}
 use Rattle.records.specs.Octets.{record_octets}
-use Rattle.records.proofs.Octets.{record-length, record_of_lem}
-use Rattle.output.specs.Write.{written}
-use Rattle.output.proofs.Writing.{copied, copied_more, written-within}
+use Rattle.records.proofs.Octets.{record_of_lem}
 use Rattle.graph.specs.Pushed.{Slots, put_at, push_record, pushed, Pushes}
 use Rattle.graph.proofs.PushedLaws.{record-room, pushed-one, pushed_most}
 
@@ -28,28 +26,19 @@ solution-is c s w n es e p q r = cc
 
 -- ---- pushed
 
--- a byte more of a record is written
-pub copied_next : (d : List ℕ) (at : ℕ) (r : List ℕ) (j : ℕ) → j < length r → set (copied d at r 0 j) (at + j) (get_or r j 0) ≡ copied d at r 0 (j + 1)
-copied_next d at r j h =
-    let e : j ≡ 0 + j = omega arith in
-    ap (λ i. set (copied d at r 0 j) (at + j) (get_or r i 0)) e ∙ copied_more d at r 0 j (omega arith)
-
--- the loop that writes a record has come to its end
-pub copied-record : (d : List ℕ) (at : ℕ) (r : List ℕ) (j : ℕ) → j ≤ solution_size → solution_size ≤ j → copied d at r 0 j ≡ written d at (take solution_size (drop 0 r))
-unfolding copied
-copied-record d at r j h g = let e : j ≡ solution_size = omega arith in rw e
-
-pub push-room : (slots n : ℕ) (out next r : List ℕ) (s : Solution) → n < slots → solution_size * slots ≤ length out → r ≡ record_octets s
-    → next ≡ written out (solution_size * n) (take solution_size (drop 0 r)) → (n + 1, next) ≡ push_record slots (n, out) (record_octets s)
+-- y over the bytes of slot n
+pub put-over : (n : ℕ) (out : List ℕ) {y r : List ℕ} → y ≡ r
+    → take (solution_size * n) out ++ (y ++ drop (solution_size * n + solution_size - solution_size * n) (drop (solution_size * n) out)) ≡ put_at out n r
 unfolding put_at
-push-room slots n out next r s h room e w =
-    let l : length (record_octets s) ≡ solution_size = record-length s in
-    let all : take solution_size (drop 0 r) ≡ record_octets s = ap (take solution_size) e ∙ take_all solution_size (record_octets s) (omega arith) in
-    let at : solution_size * n + length (record_octets s) ≡ solution_size * n + solution_size = omega arith in
-    let put : next ≡ put_at out n (record_octets s) =
-    w ∙ ap (written out (solution_size * n)) all ∙ written-within out (solution_size * n) (record_octets s) (omega arith)
-    ∙ ap (λ i. take (solution_size * n) out ++ record_octets s ++ drop i out) at in
-    ap (λ o. (n + 1, o)) put ∙ sym (record-room slots n out (record_octets s) h)
+put-over n out {r = r} q =
+    let size : solution_size * n + solution_size - solution_size * n ≡ solution_size = omega arith in
+    ap₂ (λ x k. take (solution_size * n) out ++ (x ++ drop k (drop (solution_size * n) out))) q size
+    ∙ ap (λ z. take (solution_size * n) out ++ (r ++ z)) (drop-drop solution_size (solution_size * n) out)
+    ∙ sym (append_assoc (take (solution_size * n) out) r (drop (solution_size * n + solution_size) out))
+
+pub push-room : (slots n : ℕ) (out next : List ℕ) {r : List ℕ} (s : Solution) → n < slots → r ≡ record_octets s → next ≡ put_at out n r
+    → (n + 1, next) ≡ push_record slots (n, out) (record_octets s)
+push-room slots n out next s h e q = ap (λ z. (n + 1, z)) (q ∙ ap (put_at out n) e) ∙ sym (record-room slots n out (record_octets s) h)
 
 pub pushes-one : (slots n r : ℕ) (out next : List ℕ) (c : List Edge) (s : Solution) → (r, next) ≡ push_record slots (n, out) (record_octets s)
     → s ≡ solution_of c → length c ≤ max_edges → n ≤ slots + 1 → Pushes slots (n, out) (r, next) (c ∷ [])

@@ -1,15 +1,13 @@
 -- The edges that a record names are a chain whose record it is, or there is no such chain.
 -- Assumes nothing.
+use Rattle.std.proofs.lemmas.Bool.{and_from}
 use Prim.Native.Nat.{ℕ, ◌+◌, ◌-◌, ◌*◌, ◌≤◌, ◌<◌}
 use native.Mathlib.Omega.{arith}
 use mathlib.Core.Path.{◌≡◌, refl, sym, ap, ap₂, ◌∙◌, subst}
 use mathlib.Core.Logic.{⊎_elim}
 use mathlib.Core.Bool.{Bool, true, false, ◌&&◌, ◌||◌, not, false≢true}
 use mathlib.Core.List.Memᴰ
-use mathlib.Core.List.Memᴰ.{cases_cons}
-use mathlib.Core.List.Memᴰ.{head}
-use mathlib.Core.List.Memᴰ.{not-nil}
-use mathlib.Core.List.Memᴰ.{tail}
+use mathlib.Core.List.Memᴰ.{cases_cons, head, not-nil, tail}
 use mathlib.Core.List.{List, [], ◌∷◌, ◌++◌, map, Memᴰ as Mem}
 use lib.ListN.{length, replicate, length-map}
 use borrow.Author.Tests.{not-true}
@@ -19,7 +17,7 @@ use Rattle.spec.specs.declared.Vertex.TheVariants.{AS}
 use Rattle.spec.specs.declared.Edge.{Edge}
 use Rattle.spec.specs.declared.SolutionEdge.{SolutionEdge}
 use Rattle.spec.specs.Limits.{max_edges, solution_size}
-use Rattle.std.specs.Prelude.{if◌then◌else◌}
+use Rattle.std.specs.Prelude.{if◌then◌else◌, None, Some}
 use Rattle.spec.specs.Basics.{any, range, sum, same_list}
 use Rattle.spec.specs.Edges.{same_vertex, stored_edges}
 use Rattle.spec.specs.Chains.{allowed_kinds, Leads, IsChain, chains}
@@ -27,7 +25,7 @@ use Rattle.spec.specs.Order.{cost, weight_of, solution_edge}
 use Rattle.spec.specs.Records.{bit, no_edge, record_edge, solution_in, solution_octets}
 use Rattle.spec.specs.ByRecord.{edges_in}
 use Rattle.spec.proofs.Lists.{length-range}
-use Rattle.spec.proofs.Membership.{T_true, true-T, and-true, true-and, not-both, filter-mem, mem-filter, map-mem, mem-map, flat_map-mem, mem-flat_map}
+use Rattle.spec.proofs.Membership.{T_true, true-T, and-true, not-both, filter-mem, mem-filter, map-mem, mem-map, flat_map-mem, mem-flat_map}
 use Rattle.spec.proofs.Vertices.{same_vertex-eq, eq-same_vertex}
 use Rattle.spec.proofs.ByteLaws.{edges-back}
 use Rattle.spec.proofs.LengthLaws.{solution-length}
@@ -35,7 +33,6 @@ use Rattle.spec.proofs.ChainLaws.{Among, allowed-length, chains-sound, chains-co
 use Rattle.spec.proofs.OnceLaws.{any-mem}
 use Rattle.spec.proofs.AnswerLaws.{same_list-eq, same_list-refl, record-chain}
 use Rattle.graph.specs.declared.chains.Reached.{Reached}
-use Rattle.graph.specs.declared.Chain.TheVariants.{Stranger, Edges}
 use Rattle.graph.specs.Identity.{has_identity, identified_in}
 use Rattle.records.specs.Octets.{record_octets}
 use Rattle.graph.specs.Recorded.{is_record_of, recorded_chains, chain_in}
@@ -147,7 +144,7 @@ module _ (dst : IsdAsn) (r : List ℕ) (n : ℕ) where
 
   from_on : (w : Reached) (e : Edge) → (w.at ≡ goal → ⊥) → e.src ≡ w.at → goes_on dst w e ≡ true
   unfolding goes_on
-  from_on w e away q = true-and _ _ (ap not (false-from (same_vertex w.at goal) (λ p. away (same_vertex-eq w.at goal p)))) (eq-same_vertex e.src w.at q)
+  from_on w e away q = and_from _ _ (ap not (false-from (same_vertex w.at goal) (λ p. away (same_vertex-eq w.at goal p)))) (eq-same_vertex e.src w.at q)
 
   came : (w : Reached) (e : Edge) (es : List Edge) → completes dst r n w (e ∷ es) ≡ true → Came w (e ∷ es)
   unfolding completes has_arrived one_further passed bit
@@ -166,9 +163,9 @@ module _ (dst : IsdAsn) (r : List ℕ) (n : ℕ) where
   unfolding completes has_arrived one_further passed bit
   comes w [] h = absurd h.leads
   comes w (e ∷ []) h =
-      true-and _ _ (from_on w e h.away h.leads.0) (true-and _ _ (eq-same_vertex e.dst goal h.leads.1) h.fit)
+      and_from _ _ (from_on w e h.away h.leads.0) (and_from _ _ (eq-same_vertex e.dst goal h.leads.1) h.fit)
   comes w (e ∷ f ∷ es) h =
-      true-and _ _ (from_on w e h.away h.leads.0) (comes (one_further w e) (f ∷ es) (record { away = h.leads.1; leads = h.leads.2; fit = h.fit }))
+      and_from _ _ (from_on w e h.away h.leads.0) (comes (one_further w e) (f ∷ es) (record { away = h.leads.1; leads = h.leads.2; fit = h.fit }))
 
 -- ---- the record
 
@@ -231,15 +228,15 @@ module _ (b : List ℕ) (src dst : IsdAsn) (r : List ℕ) where
       let v = recorded-mem l in
       record-chain b src dst c d u.0 v.0 (sym u.1 ∙ v.1)
 
-  recorded-none : ((c : List Edge) → IsChain b src dst c → r ≡ solution_octets c → ⊥) → Stranger ≡ chain_in (recorded_chains b src dst r)
+  recorded-none : ((c : List Edge) → IsChain b src dst c → r ≡ solution_octets c → ⊥) → None ≡ chain_in (recorded_chains b src dst r)
   recorded-none none = go (recorded_chains b src dst r) refl
     where
-      go : (cs : List (List Edge)) → recorded_chains b src dst r ≡ cs → Stranger ≡ chain_in cs
+      go : (cs : List (List Edge)) → recorded_chains b src dst r ≡ cs → None ≡ chain_in cs
       go [] q = refl
       go (d ∷ ds) q = let w = recorded-mem (subst (Mem d) (sym q) (head refl)) in absurd (none d w.0 w.1)
 
   -- no chain's record is of that length
-  pub recorded-size : (length r ≡ solution_size → ⊥) → Stranger ≡ chain_in (recorded_chains b src dst r)
+  pub recorded-size : (length r ≡ solution_size → ⊥) → None ≡ chain_in (recorded_chains b src dst r)
   recorded-size d = recorded-none (λ c p q. d (ap length q ∙ solution-length c (allowed-length c p.kinds)))
 
   module _ {n : ℕ} (m : n ≡ (solution_in r).count) where
@@ -295,7 +292,7 @@ module _ (b : List ℕ) (src dst : IsdAsn) (r : List ℕ) where
               (record {
                 away = λ p. h.differ (let e : src ≡ dst = cc in e);
                 leads = h.leads;
-                fit = fit ∙ true-and _ _ (T_true (allowed_kinds c) h.kinds) (has-record r c q);
+                fit = fit ∙ and_from _ _ (T_true (allowed_kinds c) h.kinds) (has-record r c q);
               }),
         )
 
@@ -303,18 +300,18 @@ module _ (b : List ℕ) (src dst : IsdAsn) (r : List ℕ) where
     unfolding completed
     all = let e : n - 0 ≡ n = omega arith in ap (λ k. any tests (with_identities b (map (record_edge r) (range 0 k)))) e
 
-    pub walk-recorded : n ≤ max_edges → (t : Bool) → completed b dst r n (begun src) 0 ≡ t → chain_in (recorded_chains b src dst r) ≡ (if t then Edges n else Stranger)
+    pub walk-recorded : n ≤ max_edges → (t : Bool) → completed b dst r n (begun src) 0 ≡ t → chain_in (recorded_chains b src dst r) ≡ (if t then Some n else None)
     walk-recorded h t q = go t (sym all ∙ q) (recorded_chains b src dst r) refl
       where
-        go : (t : Bool) → any tests (with_identities b ids) ≡ t → (cs : List (List Edge)) → recorded_chains b src dst r ≡ cs → chain_in cs ≡ (if t then Edges n else Stranger)
+        go : (t : Bool) → any tests (with_identities b ids) ≡ t → (cs : List (List Edge)) → recorded_chains b src dst r ≡ cs → chain_in cs ≡ (if t then Some n else None)
         go true e cs q =
             let w = any_some tests (with_identities b ids) e in
             let k = with-sound b ids w.0 w.1 in
             found (own-size w.0 k.own) (named-chain h w.0 k w.2) cs q
           where
-            found : {c : List Edge} → n ≡ length c → Mem c (recorded_chains b src dst r) → (cs : List (List Edge)) → recorded_chains b src dst r ≡ cs → chain_in cs ≡ Edges n
+            found : {c : List Edge} → n ≡ length c → Mem c (recorded_chains b src dst r) → (cs : List (List Edge)) → recorded_chains b src dst r ≡ cs → chain_in cs ≡ Some n
             found {c} s l [] q = absurd (not-nil (subst (Mem c) q l))
-            found {c} s l (d ∷ ds) q = ap Edges (ap length (recorded-same d c (subst (Mem d) (sym q) (head refl)) l) ∙ sym s)
+            found {c} s l (d ∷ ds) q = ap Some (ap length (recorded-same d c (subst (Mem d) (sym q) (head refl)) l) ∙ sym s)
         go false e [] q = refl
         go false e (d ∷ ds) q =
             let w = recorded-mem (subst (Mem d) (sym q) (head refl)) in
@@ -322,5 +319,5 @@ module _ (b : List ℕ) (src dst : IsdAsn) (r : List ℕ) where
             not-both (any-mem tests (with_identities b ids) k.0 k.1) e
 
     -- no chain has so many edges
-    pub recorded-long : max_edges < n → Stranger ≡ chain_in (recorded_chains b src dst r)
+    pub recorded-long : max_edges < n → None ≡ chain_in (recorded_chains b src dst r)
     recorded-long h = recorded-none (λ c p q. omega (arith, own-size c (own-ids c q), allowed-length c p.kinds))

@@ -12,19 +12,13 @@ use Rattle.spec.specs.declared.IsdAsn.{IsdAsn}
 use Rattle.spec.specs.declared.Edge.{Edge}
 use Rattle.spec.specs.declared.SolutionEdge.{SolutionEdge}
 use Rattle.spec.specs.declared.Solution.{Solution}
-use Rattle.spec.specs.declared.Verdict.{Verdict}
-use Rattle.spec.specs.declared.Verdict.TheVariants.{Accepted, Refused as RefusedBook}
+use Rattle.std.specs.Prelude.{Ok, Err, if◌then◌else◌, None, Option, Some}
+use Rattle.spec.specs.Book.{Verdict, verdict}
 use Rattle.spec.specs.declared.Refusal.{Refusal}
 use Rattle.spec.specs.Limits.{max_edges, solution_size}
-use Rattle.std.specs.Prelude.{if◌then◌else◌}
 use Rattle.spec.specs.Basics.{any, range}
-use Rattle.spec.specs.Book.{verdict}
 use Rattle.spec.specs.Records.{bit, no_edge, record_edge}
 use Rattle.graph.specs.declared.chains.Reached.{Reached}
-use Rattle.graph.specs.declared.Chain.{Chain}
-use Rattle.graph.specs.declared.Chain.TheVariants.{Refused}
-use Rattle.graph.specs.declared.edges.Found.{Found}
-use Rattle.graph.specs.declared.edges.Found.TheVariants.{Edge as FoundEdge, Nothing}
 use Rattle.graph.specs.Lookup.{found_edges}
 use Rattle.graph.specs.Identity.{identified_in}
 use Rattle.records.specs.Octets.{record_octets}
@@ -119,12 +113,12 @@ bounded-further w e x h s {v} q l =
 
 -- ---- an edge that is looked up
 
-module _ (b : List ℕ) (id : SolutionEdge) (ids : List SolutionEdge) (found : Found) (e : found_edges found ≡ identified_in b id) where
-  with-edge : (x : Edge) → found ≡ FoundEdge x → with_identities b (id ∷ ids) ≡ ahead (with_identities b ids) x
+module _ (b : List ℕ) (id : SolutionEdge) (ids : List SolutionEdge) (found : Option Edge) (e : found_edges found ≡ identified_in b id) where
+  with-edge : (x : Edge) → found ≡ Some x → with_identities b (id ∷ ids) ≡ ahead (with_identities b ids) x
   unfolding with_identities flat_map found_edges
   with-edge x q = ap (flat_map (ahead (with_identities b ids))) (sym e ∙ ap found_edges q) ∙ append-nil (ahead (with_identities b ids) x)
 
-  with_nothing : found ≡ Nothing → with_identities b (id ∷ ids) ≡ []
+  with_nothing : found ≡ None → with_identities b (id ∷ ids) ≡ []
   unfolding with_identities flat_map found_edges
   with_nothing q = ap (flat_map (ahead (with_identities b ids))) (sym e ∙ ap found_edges q)
 
@@ -148,18 +142,18 @@ module _ (b : List ℕ) (dst : IsdAsn) (r : List ℕ) (n : ℕ) (w : Reached) (x
   abbrev later : List SolutionEdge
   later = map (record_edge r) (range (x + 1) (n - (x + 1)))
 
-  module _ (h : x < n) {id : SolutionEdge} (i : id ≡ record_edge r x) (found : Found) (e : found_edges found ≡ identified_in b id) where
+  module _ (h : x < n) {id : SolutionEdge} (i : id ≡ record_edge r x) (found : Option Edge) (e : found_edges found ≡ identified_in b id) where
     turn : completed b dst r n w x ≡ any (completes dst r n w) (with_identities b (id ∷ later))
     unfolding completed
     turn =
         ap (λ l. any (completes dst r n w) (with_identities b (map (record_edge r) l))) (range-turn x n h)
         ∙ ap (λ d. any (completes dst r n w) (with_identities b (d ∷ later))) (sym i)
 
-    pub edge-gone : found ≡ Nothing → completed b dst r n w x ≡ false
+    pub edge-gone : found ≡ None → completed b dst r n w x ≡ false
     unfolding any
     edge-gone q = turn ∙ ap (any (completes dst r n w)) (with_nothing b id later found e q)
 
-    module _ {y : Edge} (q : found ≡ FoundEdge y) {t : Bool} (o : t ≡ goes_on dst w y) where
+    module _ {y : Edge} (q : found ≡ Some y) {t : Bool} (o : t ≡ goes_on dst w y) where
       edge-next : completed b dst r n w x ≡ (t && completed b dst r n (one_further w y) (x + 1))
       unfolding completed
       edge-next =
@@ -182,8 +176,8 @@ module _ (b : List ℕ) (v : Verdict) (p : v ≡ verdict b) (src dst : IsdAsn) (
   unfolding recorded
   by-verdict = ap (λ u. recorded_on u (recorded_chains b src dst r)) p
 
-  pub refused-said : (x : Refusal) → v ≡ RefusedBook x → Refused x ≡ recorded b src dst r
+  pub refused-said : (x : Refusal) → v ≡ Err x → Err x ≡ recorded b src dst r
   refused-said x q = sym (ap (λ u. recorded_on u (recorded_chains b src dst r)) q) ∙ by-verdict
 
-  pub accepted-said : {s : Chain} → v ≡ Accepted → s ≡ chain_in (recorded_chains b src dst r) → s ≡ recorded b src dst r
-  accepted-said q e = e ∙ sym (ap (λ u. recorded_on u (recorded_chains b src dst r)) q) ∙ by-verdict
+  pub accepted-said : {s : Option ℕ} → v ≡ Ok tt → s ≡ chain_in (recorded_chains b src dst r) → Ok s ≡ recorded b src dst r
+  accepted-said q e = ap Ok e ∙ sym (ap (λ u. recorded_on u (recorded_chains b src dst r)) q) ∙ by-verdict

@@ -5,16 +5,14 @@ use native.Mathlib.Omega.{arith}
 use mathlib.Core.Path.{◌≡◌, refl, sym, ap, ◌∙◌, subst}
 use mathlib.Core.Logic.{⊎_elim}
 use mathlib.Core.Bool.{Bool, true, false}
-use mathlib.Core.List.Memᴰ.{cases_cons}
-use mathlib.Core.List.Memᴰ.{not-nil}
+use mathlib.Core.List.Memᴰ.{cases_cons, not-nil}
 use mathlib.Core.List.{List, [], ◌∷◌, map, flat_map, Memᴰ as Mem, head-eq_of_cons-eq, tail-eq_of_cons-eq}
 use lib.ListN.{length}
 use Rattle.spec.specs.declared.IsdAsn.{IsdAsn}
 use Rattle.spec.specs.declared.Vertex.TheVariants.{AS}
 use Rattle.spec.specs.declared.Edge.{Edge}
-use Rattle.spec.specs.declared.Verdict.TheVariants.{Accepted}
+use Rattle.std.specs.Prelude.{Ok, if◌then◌else◌}
 use Rattle.spec.specs.Limits.{max_edges}
-use Rattle.std.specs.Prelude.{if◌then◌else◌}
 use Rattle.spec.specs.Basics.{filter, range, Once}
 use Rattle.spec.specs.Book.{same_as, Segment, segments, segment_at, segment_count, verdict}
 use Rattle.spec.specs.Edges.{same_vertex, insertions, is_first, firsts, stored_of, stored_edges}
@@ -69,7 +67,7 @@ module _ (b : List ℕ) (dst : IsdAsn) where
       go true k = ([], ⊎_elim (λ q. q) (λ l. absurd (not-nil l)) (cases_cons k))
       go false k = let w = map-mem (λ es. e ∷ es) (walks (max_edges - 1) (stored_edges b) (AS dst) e.dst) k in (w.0, w.2)
 
-  module _ (ok : verdict b ≡ Accepted) (src : IsdAsn) where
+  module _ (ok : verdict b ≡ Ok tt) (src : IsdAsn) where
     first-apart : (seg : Segment) → Mem seg (firsts (segments b)) → Apart seg
     first-apart seg m = (loopless b ok (first-mem b m)).apart
 

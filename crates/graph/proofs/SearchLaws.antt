@@ -1,5 +1,6 @@
 -- The search segment by segment: what the loops add up to is what the definitions of chains say.
 -- Assumes nothing.
+use Rattle.std.proofs.lemmas.List.{map-append}
 use Prim.Native.Nat.{ℕ, zero, suc, ◌+◌, ◌-◌, ◌<◌, ◌≤◌}
 use native.Mathlib.Omega.{arith}
 use native.Mathlib.Nat.{add-zero}
@@ -17,7 +18,7 @@ use Rattle.spec.specs.Book.{Segment, segments, segment_at, segment_count}
 use Rattle.spec.specs.Edges.{same_vertex, insertions, is_first, firsts, stored_of, stored_edges}
 use Rattle.spec.specs.Chains.{allowed_kinds, leaves, leaving, beginning, walks}
 use Rattle.spec.proofs.Membership.{filter-mem, map-mem}
-use Rattle.spec.proofs.Lists.{map-append, flat_map-append}
+use Rattle.spec.proofs.Lists.{flat_map-append}
 use Rattle.spec.proofs.OnceLaws.{inserted, lasting-mem}
 use Rattle.graph.specs.Lookup.{has_ends, between, leaving_of}
 use Rattle.graph.specs.Search.{over_firsts, chains_from, pair, triple, pairs_in, triples_in, across_with, chains_with}

@@ -6,7 +6,7 @@ use native.Mathlib.Omega.{arith}
 use mathlib.Core.Path.{◌≡◌, refl, sym, ap, ◌∙◌}
 use mathlib.Core.Bool.{Bool, true, false}
 use mathlib.Core.List.{List, [], ◌++◌}
-use lib.ListN.{length, get_or, set, length-set}
+use lib.ListN.{length, get_or, set}
 use lib.Seq.{get_or-set_same, get_or-set_other}
 use Rattle.spec.specs.declared.IsdAsn.{IsdAsn}
 use Rattle.spec.specs.declared.Edge.{Edge}
@@ -14,7 +14,6 @@ use Rattle.spec.specs.Limits.{max_segments, solution_size}
 use Rattle.std.specs.Prelude.{if◌then◌else◌}
 use Rattle.spec.specs.Book.{Segment, segments, segment_at, segment_count, cores}
 use Rattle.spec.specs.Edges.{is_first}
-use Rattle.spec.specs.Records.{bit}
 use Rattle.graph.specs.declared.search.Before.{Before}
 use Rattle.graph.specs.Scan.{first_with}
 use Rattle.graph.specs.Leaving.{has_as}
@@ -29,17 +28,18 @@ use Rattle.graph.proofs.SearchTurns.{other_at, arrives-first, arrives-none, last
 
 -- ---- the plan is made from the last position down
 
--- one number more, at the place of k
-more-below : (xs : List ℕ) (place f : ℕ → ℕ) (k n v : ℕ) → ((i j : ℕ) → place i ≡ place j → i ≡ j) → place k < length xs → v ≡ f k
-    → ((i : ℕ) → k + 1 ≤ i → i < n → get_or xs (place i) 0 ≡ f i) → (i : ℕ) → k ≤ i → i < n → get_or (set xs (place k) v) (place i) 0 ≡ f i
-more-below xs place f k n v apart l q above i a h = go (ℕ_discrete k i)
+-- one item more, at k
+more-below : {A : Type 0} (d : A) (xs : List A) (f : ℕ → A) (k n : ℕ) (v : A) → k < length xs → v ≡ f k
+    → ((i : ℕ) → k + 1 ≤ i → i < n → get_or xs i d ≡ f i) → (i : ℕ) → k ≤ i → i < n → get_or (set xs k v) i d ≡ f i
+more-below d xs f k n v l q above i a h = go (ℕ_discrete k i)
   where
-    go : Dec (k ≡ i) → get_or (set xs (place k) v) (place i) 0 ≡ f i
-    go (yes e) = ap (λ j. get_or (set xs (place k) v) (place j) 0) (sym e) ∙ get_or-set_same xs (place k) v 0 l ∙ q ∙ ap f e
-    go (no d) = get_or-set_other xs (place k) (place i) v 0 (λ e. d (sym (apart i k e))) ∙ above i (omega arith) h
+    go : Dec (k ≡ i) → get_or (set xs k v) i d ≡ f i
+    go (yes e) = ap (λ j. get_or (set xs k v) j d) (sym e) ∙ get_or-set_same xs k v d l ∙ q ∙ ap f e
+    go (no x) = get_or-set_other xs k i v d (λ e. x (sym e)) ∙ above i (omega arith) h
 
-pub plan-all : {b : List ℕ} {src dst : IsdAsn} {n k : ℕ} {plan : List ℕ} → Planned b src dst n k plan → k ≤ 0 → Planned b src dst n 0 plan
-plan-all p h = record { starts = λ i a. p.starts i (omega arith); nexts = λ i a. p.nexts i (omega arith) }
+pub plan-all : {b : List ℕ} {src dst : IsdAsn} {n k : ℕ} {starts : List Bool} {nexts : List ℕ} → Planned b src dst n k starts nexts → k ≤ 0
+    → Planned b src dst n 0 starts nexts
+plan-all p h = record { begin = λ i a. p.begin i (omega arith); next = λ i a. p.next i (omega arith) }
 
 module _ (b : List ℕ) (dst : IsdAsn) (n : ℕ) where
   abbrev next_from : ℕ → ℕ
@@ -60,28 +60,23 @@ module _ (b : List ℕ) (dst : IsdAsn) (n : ℕ) where
       ∙ ap (λ x. if arrives b dst (k - 1) then k - 1 else x) (later ∙ ap next_from back)
       ∙ ap (first_with (arrives b dst) (k - 1)) e
 
-  module _ (src : IsdAsn) (few : n ≤ max_segments) (plan : List ℕ) (size : length plan ≡ 2 * max_segments + 1) where
-    pub plan-start : Planned b src dst n n (set plan (max_segments + n) n)
+  module _ (src : IsdAsn) (few : n ≤ max_segments) (starts : List Bool) (nexts : List ℕ) (size : length nexts ≡ max_segments + 1) where
+    pub plan-start : Planned b src dst n n starts (set nexts n n)
     plan-start =
         record {
-          starts = λ i a h. absurd (omega arith);
-          nexts = λ i a h.
+          begin = λ i a h. absurd (omega arith);
+          next = λ i a h.
               let e : n ≡ i = omega arith in
-              ap (λ j. get_or (set plan (max_segments + n) n) (max_segments + j) 0) (sym e) ∙ get_or-set_same plan (max_segments + n) n 0 (omega arith) ∙ next-end ∙ ap next_from e;
+              ap (λ j. get_or (set nexts n n) j 0) (sym e) ∙ get_or-set_same nexts n n 0 (omega arith) ∙ next-end ∙ ap next_from e;
         }
 
-    pub plan-turn : (k : ℕ) → 0 < k → k ≤ n → {s : Bool} {start next : ℕ} → s ≡ begins b src (k - 1) → start ≡ bit s → next ≡ next_from (k - 1)
-        → Planned b src dst n k plan → Planned b src dst n (k - 1) (set (set plan (k - 1) start) (max_segments + (k - 1)) next)
-    plan-turn k below within {start = start} {next = next} here told chosen p =
-        let l : length (set plan (k - 1) start) ≡ 2 * max_segments + 1 = simp length-set size in
+    pub plan-turn : length starts ≡ max_segments → (k : ℕ) → 0 < k → k ≤ n → {s : Bool} {next : ℕ} → s ≡ begins b src (k - 1) → next ≡ next_from (k - 1)
+        → Planned b src dst n k starts nexts → Planned b src dst n (k - 1) (set starts (k - 1) s) (set nexts (k - 1) next)
+    plan-turn room k below within {s = s} {next = next} here chosen p =
         record {
-          starts = λ i a h.
-              get_or-set_other (set plan (k - 1) start) (max_segments + (k - 1)) i next 0 (λ e. omega arith)
-              ∙ more-below plan (λ j. j) (λ j. bit (begins b src j)) (k - 1) n start (λ i j e. e) (omega arith) (told ∙ ap bit here)
-              (λ j c d. p.starts j (omega arith) d) i a h;
-          nexts = λ i a h.
-              more-below (set plan (k - 1) start) (λ j. max_segments + j) next_from (k - 1) (n + 1) next (λ i j e. omega arith) (omega arith) chosen
-              (λ j c d. get_or-set_other plan (k - 1) (max_segments + j) start 0 (λ e. omega arith) ∙ p.nexts j (omega arith) (omega arith)) i a (omega arith);
+          begin = λ i a h. more-below false starts (begins b src) (k - 1) n s (omega arith) here (λ j c d. p.begin j (omega arith) d) i a h;
+          next = λ i a h.
+              more-below 0 nexts next_from (k - 1) (n + 1) next (omega arith) chosen (λ j c d. p.next j (omega arith) (omega arith)) i a (omega arith);
         }
 
 -- ---- what is passed over
@@ -131,13 +126,13 @@ pub record LastEdges (b : List ℕ) (dst : IsdAsn) (c n slots : ℕ) (f : Segmen
   pub size : length out ≡ length before.1
   pub going : Going slots before (m, out) (over_firsts f b c (n - c)) (over_firsts f b k (n - k))
 
-module _ {b t plan : List ℕ} {src dst : IsdAsn} {c n : ℕ} (p : Prepared b t plan src dst c n) where
+module _ {b : List ℕ} {starts : List Bool} {nexts : List ℕ} {src dst : IsdAsn} {c n : ℕ} (p : Prepared b starts nexts src dst c n) where
   abbrev next_at : ℕ → ℕ
-  next_at k = get_or plan (max_segments + k) 0
+  next_at k = get_or nexts k 0
 
   module _ (k : ℕ) (h : k ≤ n) where
     next : next_at k ≡ first_with (arrives b dst) k (n - k)
-    next = p.planned.nexts k (omega arith) h
+    next = p.planned.next k (omega arith) h
 
     next-above : k ≤ next_at k
     next-above = omega (arith, next, first-le (arrives b dst) k (n - k))

@@ -12,22 +12,19 @@ use Rattle.spec.specs.declared.IsdAsn.{IsdAsn}
 use Rattle.spec.specs.declared.Vertex.{Vertex}
 use Rattle.spec.specs.declared.Vertex.TheVariants.{AS, Peering}
 use Rattle.spec.specs.declared.Edge.{Edge}
-use Rattle.std.specs.Prelude.{if◌then◌else◌}
+use Rattle.std.specs.Prelude.{if◌then◌else◌, None, Option, Some}
 use Rattle.spec.specs.Basics.{range}
 use Rattle.spec.specs.Book.{same_as, Segment, segments, segment_at, segment_count, cores}
 use Rattle.spec.specs.Edges.{same_vertex, as_of, leaf_as, edge_of, is_first}
-use Rattle.spec.specs.Records.{bit}
 use Rattle.graph.specs.declared.search.Before.{Before}
 use Rattle.graph.specs.declared.search.Before.TheVariants.{Link, One, Two}
-use Rattle.graph.specs.declared.edges.Found.{Found}
-use Rattle.graph.specs.declared.edges.Found.TheVariants.{Edge as FoundEdge, Nothing}
 use Rattle.graph.specs.Lookup.{between, leaving_of, found_edges}
 use Rattle.graph.specs.Leaving.{entry_count, peer_count_of, as_up, peer_up, ups_at, leaving_in, has_as, core_edge_from}
 use Rattle.graph.specs.FirstOfEquals.{first_at}
 use Rattle.graph.specs.Prepared.{begins, arrives}
 use Rattle.graph.specs.Search.{IsAs, ends_at_as, over_firsts, pair, triple, pairs_in, triples_in, across_with, chains_with, last_in, chains_from, chains_in, found_chains}
 use Rattle.spec.proofs.Lists.{flat_map-append}
-use Rattle.spec.proofs.Membership.{not-both}
+use Rattle.spec.proofs.Membership.{and-true, not-both}
 use Rattle.graph.proofs.LookupLaws.{core-leaving}
 use Rattle.graph.proofs.EdgeReads.{other-leaf, none-leaves, empty-leaving}
 use Rattle.graph.proofs.SearchLists.{range-turn}
@@ -57,54 +54,33 @@ module _ (b : List ℕ) (k : ℕ) where
   unfolding arrives
   arrives-by dst t u p q = sym (ap₂ (λ x y. x && (not y && has_as (segment_at b k) dst)) p q)
 
-  -- by the byte that tells the first of equals, and by what the entries have
-  module _ (src dst : IsdAsn) {x : ℕ} (first : x ≡ first_at b k) where
-    first-told : (x ≡ 0 → ⊥) → first_here ≡ true
+  -- by what tells the first of equals, and by what the entries have
+  module _ (src dst : IsdAsn) {x : Bool} (first : x ≡ first_at b k) where
+    told : {t : Bool} → x ≡ t → first_here ≡ t
     unfolding first_at
-    first-told d = go first_here first
-      where
-        go : (t : Bool) → x ≡ (if t then 1 else 0) → t ≡ true
-        go true q = refl
-        go false q = absurd (d q)
+    told q = sym first ∙ q
 
-    later-told : x ≡ 0 → first_here ≡ false
-    unfolding first_at
-    later-told z = go first_here first
-      where
-        go : (t : Bool) → x ≡ (if t then 1 else 0) → t ≡ false
-        go true q = absurd (omega arith)
-        go false q = refl
+    pub ends-later : x ≡ false → (false ≡ begins b src k) × (false ≡ arrives b dst k)
+    ends-later z = (begins-by src false _ (told z) refl, arrives-by dst false _ (told z) refl)
 
-    pub ends-later : x ≡ 0 → (false ≡ begins b src k) × (false ≡ arrives b dst k)
-    ends-later z = (begins-by src false _ (later-told z) refl, arrives-by dst false _ (later-told z) refl)
+    pub ends-core : x ≡ true → k < cores b → (true ≡ begins b src k) × (false ≡ arrives b dst k)
+    ends-core d h = (begins-by src true true (told d) (core_at b k h), arrives-by dst true true (told d) (core_at b k h))
 
-    pub ends-core : (x ≡ 0 → ⊥) → k < cores b → (true ≡ begins b src k) × (false ≡ arrives b dst k)
-    ends-core d h = (begins-by src true true (first-told d) (core_at b k h), arrives-by dst true true (first-told d) (core_at b k h))
-
-    pub ends-other : {u v : Bool} → (x ≡ 0 → ⊥) → cores b ≤ k → u ≡ has_as (segment_at b k) src → v ≡ has_as (segment_at b k) dst
+    pub ends-other : {u v : Bool} → x ≡ true → cores b ≤ k → u ≡ has_as (segment_at b k) src → v ≡ has_as (segment_at b k) dst
         → (u ≡ begins b src k) × (v ≡ arrives b dst k)
     ends-other d h p q =
-        (p ∙ begins-by src true false (first-told d) (other_at b k h), q ∙ arrives-by dst true false (first-told d) (other_at b k h))
+        (p ∙ begins-by src true false (told d) (other_at b k h), q ∙ arrives-by dst true false (told d) (other_at b k h))
 
   -- as the loops use them
-  module _ (src : IsdAsn) {x : ℕ} (start : x ≡ bit (begins b src k)) where
-    pub start_first : 0 < x → first_here ≡ true
-    unfolding begins bit
-    start_first h = go first_here start
-      where
-        go : (t : Bool) → x ≡ (if t && ((segment_at b k).core || has_as (segment_at b k) src) then 1 else 0) → t ≡ true
-        go true q = refl
-        go false q = absurd (omega arith)
+  module _ (src : IsdAsn) {x : Bool} (start : x ≡ begins b src k) where
+    pub start_first : x ≡ true → first_here ≡ true
+    unfolding begins
+    start_first h = (and-true first_here ((segment_at b k).core || has_as (segment_at b k) src) (sym start ∙ h)).0
 
-    no_start : x ≤ 0 → (u : Bool) → (segment_at b k).core ≡ u → first_here ≡ true → (u || has_as (segment_at b k) src) ≡ false
-    unfolding bit
-    no_start h u c t = go (u || has_as (segment_at b k) src) (start ∙ ap bit (sym (begins-by src true u t c)))
-      where
-        go : (y : Bool) → x ≡ (if y then 1 else 0) → y ≡ false
-        go true q = absurd (omega arith)
-        go false q = refl
+    no_start : x ≡ false → (u : Bool) → (segment_at b k).core ≡ u → first_here ≡ true → (u || has_as (segment_at b k) src) ≡ false
+    no_start h u c t = begins-by src true u t c ∙ sym start ∙ h
 
-    pub start-core : {A : Type 0} → k < cores b → x ≤ 0 → first_here ≡ true → A
+    pub start-core : {A : Type 0} → k < cores b → x ≡ false → first_here ≡ true → A
     start-core h l t = not-both refl (no_start l true (core_at b k h) t)
 
   pub arrives-first : (dst : IsdAsn) → arrives b dst k ≡ true → first_here ≡ true
@@ -120,11 +96,11 @@ module _ (b : List ℕ) (k : ℕ) where
 
 -- ---- what is found
 
-found-edge : (r : Found) (l : List Edge) (g : Edge) → found_edges r ≡ l → r ≡ FoundEdge g → l ≡ g ∷ []
+found-edge : (r : Option Edge) (l : List Edge) (g : Edge) → found_edges r ≡ l → r ≡ Some g → l ≡ g ∷ []
 unfolding found_edges
 found-edge r l g e q = sym e ∙ ap found_edges q
 
-found_nothing : (r : Found) (l : List Edge) → found_edges r ≡ l → r ≡ Nothing → l ≡ []
+found_nothing : (r : Option Edge) (l : List Edge) → found_edges r ≡ l → r ≡ None → l ≡ []
 unfolding found_edges
 found_nothing r l e q = sym e ∙ ap found_edges q
 
@@ -155,7 +131,7 @@ from-ends seg v = go (same_vertex (AS (as_of seg 0)) v) (same_vertex (AS (leaf_a
     go false false = refl
 
 -- they end at an AS
-pub core-ends : (b : List ℕ) (k : ℕ) (v : Vertex) (r : Found) (f : Edge) → k < cores b → found_edges r ≡ leaving_of v (segment_at b k) → r ≡ FoundEdge f
+pub core-ends : (b : List ℕ) (k : ℕ) (v : Vertex) (r : Option Edge) (f : Edge) → k < cores b → found_edges r ≡ leaving_of v (segment_at b k) → r ≡ Some f
     → ends_at_as f ≡ true
 unfolding first_ends
 core-ends b k v r f h p q = go (core-leaves (segment_at b k) (core_at b k h) v)
@@ -214,13 +190,13 @@ module _ (b : List ℕ) (dst : IsdAsn) (e : Edge) (k : ℕ) where
       (core_at b k h)
       ∙ ap (λ t. if t then [] else flat_map (across_with b dst e) (leaving_of e.dst (segment_at b k))) q
 
-  pub across-found : (r : Found) (f : Edge) → k < cores b → e.core ≡ false → found_edges r ≡ leaving_of e.dst (segment_at b k) → r ≡ FoundEdge f
+  pub across-found : (r : Option Edge) (f : Edge) → k < cores b → e.core ≡ false → found_edges r ≡ leaving_of e.dst (segment_at b k) → r ≡ Some f
       → chains_with b dst e (segment_at b k) ≡ across_with b dst e f
   unfolding flat_map
   across-found r f h c p q =
       across-core h c ∙ ap (flat_map (across_with b dst e)) (found-edge r _ f p q) ∙ append-nil (across_with b dst e f)
 
-  pub across-nothing : (r : Found) → k < cores b → e.core ≡ false → found_edges r ≡ leaving_of e.dst (segment_at b k) → r ≡ Nothing
+  pub across-nothing : (r : Option Edge) → k < cores b → e.core ≡ false → found_edges r ≡ leaving_of e.dst (segment_at b k) → r ≡ None
       → chains_with b dst e (segment_at b k) ≡ []
   unfolding flat_map
   across-nothing r h c p q = across-core h c ∙ ap (flat_map (across_with b dst e)) (found_nothing r _ p q)
@@ -334,11 +310,11 @@ module _ (b : List ℕ) (dst : IsdAsn) (e : Edge) (t : Bool) where
 -- ---- the edges of one segment that leave the source
 
 module _ (f : Edge → List (List Edge)) where
-  pub of-edge : (r : Found) (e : Edge) → r ≡ FoundEdge e → flat_map f (found_edges r) ≡ f e
+  pub of-edge : (r : Option Edge) (e : Edge) → r ≡ Some e → flat_map f (found_edges r) ≡ f e
   unfolding flat_map found_edges
   of-edge r e q = ap (λ s. flat_map f (found_edges s)) q ∙ append-nil (f e)
 
-  pub of-nothing : (r : Found) → r ≡ Nothing → flat_map f (found_edges r) ≡ []
+  pub of-nothing : (r : Option Edge) → r ≡ None → flat_map f (found_edges r) ≡ []
   unfolding flat_map found_edges
   of-nothing r q = ap (λ s. flat_map f (found_edges s)) q
 
@@ -353,7 +329,7 @@ module _ (f : Edge → List (List Edge)) where
     each_turn i n h =
         ap (λ l. flat_map f (flat_map g l)) (range-turn i n h) ∙ flat_map-append f (g i) (flat_map g (range (i + 1) (n - (i + 1))))
 
-    pub each-found : (i n : ℕ) (r : Found) → i < n → found_edges r ≡ g i
+    pub each-found : (i n : ℕ) (r : Option Edge) → i < n → found_edges r ≡ g i
         → flat_map f (flat_map g (range i (n - i))) ≡ flat_map f (found_edges r) ++ flat_map f (flat_map g (range (i + 1) (n - (i + 1))))
     each-found i n r h q = each_turn i n h ∙ ap (λ l. flat_map f l ++ flat_map f (flat_map g (range (i + 1) (n - (i + 1))))) (sym q)
 
@@ -364,7 +340,7 @@ module _ (f : Edge → List (List Edge)) where
         ap (λ k. flat_map f (flat_map g (range i k))) e
 
   -- an entry's edges: to its AS, and to its peering ends
-  pub ups-turn : (seg : Segment) (i n : ℕ) (r : Found) → i < n → found_edges r ≡ as_up seg i
+  pub ups-turn : (seg : Segment) (i n : ℕ) (r : Option Edge) → i < n → found_edges r ≡ as_up seg i
       → flat_map f (flat_map (ups_at seg) (range i (n - i)))
       ≡ flat_map f (found_edges r) ++ (flat_map f (flat_map (peer_up seg i) (range 0 (peer_count_of seg i))) ++ flat_map f (flat_map (ups_at seg) (range (i + 1) (n - (i + 1)))))
   unfolding ups_at
@@ -394,7 +370,7 @@ module _ (b : List ℕ) (dst src : IsdAsn) (k : ℕ) where
     filled : eqb (entry_count (segment_at b k)) 0 ≡ false
     filled = ne_eqb _ 0 (λ q. some (p ∙ q))
 
-    pub in-core : (r : Found) → k < cores b → found_edges r ≡ leaving_of (AS src) (segment_at b k) → chains_in b dst src (segment_at b k) ≡ flat_map (chains_from b dst) (found_edges r)
+    pub in-core : (r : Option Edge) → k < cores b → found_edges r ≡ leaving_of (AS src) (segment_at b k) → chains_in b dst src (segment_at b k) ≡ flat_map (chains_from b dst) (found_edges r)
     unfolding chains_in
     in-core r h q = ap (flat_map (chains_from b dst)) (leaving-by false true _ filled (core_at b k h) refl ∙ sym q)
 
@@ -408,7 +384,7 @@ module _ (b : List ℕ) (dst src : IsdAsn) (k : ℕ) where
           ap (flat_map (chains_from b dst))
           (leaving-by false false true filled (other_at b k h) (tested ∙ q) ∙ ap (λ j. flat_map (ups_at (segment_at b k)) (range 0 j)) (sym (i ∙ p)))
 
-      pub in-other : (r : Found) → u ≡ false → found_edges r ≡ between (segment_at b k) (AS src) (AS leaf)
+      pub in-other : (r : Option Edge) → u ≡ false → found_edges r ≡ between (segment_at b k) (AS src) (AS leaf)
           → chains_in b dst src (segment_at b k) ≡ flat_map (chains_from b dst) (found_edges r)
       unfolding chains_in
       in-other r q i =
@@ -423,11 +399,11 @@ module _ (b : List ℕ) (dst src : IsdAsn) (k : ℕ) where
       go true e = in-empty _ refl (eqb-true _ 0 e)
       go false e =
           let some = eqb-false _ 0 e in
-          in-other _ refl some h _ refl false (sym (other-leaf (segment_at b k) (other_at b k h) src q (omega arith))) Nothing refl
+          in-other _ refl some h _ refl false (sym (other-leaf (segment_at b k) (other_at b k h) src q (omega arith))) None refl
           (unfold found_edges in sym (none-leaves (segment_at b k) (other_at b k h) src q))
-          ∙ of-nothing (chains_from b dst) Nothing refl
+          ∙ of-nothing (chains_from b dst) None refl
 
-  pub start_none : {x : ℕ} → x ≡ bit (begins b src k) → x ≤ 0 → first_here b k ≡ true → chains_in b dst src (segment_at b k) ≡ []
+  pub start_none : {x : Bool} → x ≡ begins b src k → x ≡ false → first_here b k ≡ true → chains_in b dst src (segment_at b k) ≡ []
   start_none s l t = go (ltb k (cores b)) refl
     where
       go : (u : Bool) → ltb k (cores b) ≡ u → chains_in b dst src (segment_at b k) ≡ []

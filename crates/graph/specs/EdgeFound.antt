@@ -1,6 +1,6 @@
 -- An edge to an AS of a non-core segment, by what is not known of it before it is found.
 -- Assumes nothing.
-use Rattle.std.specs.Prelude.{ℕ, false, List, [], ◌∷◌, if◌then◌else◌}
+use Rattle.std.specs.Prelude.{ℕ, false, List, [], ◌∷◌, Option, Some, None}
 use Rattle.spec.specs.declared.IsdAsn.{IsdAsn}
 use Rattle.spec.specs.declared.Vertex.{Vertex}
 use Rattle.spec.specs.declared.Vertex.TheVariants.{AS}
@@ -22,5 +22,6 @@ whole_edge k v w j =
     }
 
 -- as a list of at most one
-unfoldable pub whole_edges : ℕ → Vertex → IsdAsn → EdgeFound → List Edge
-whole_edges k v w j = if j.found then whole_edge k v w j ∷ [] else []
+unfoldable pub whole_edges : ℕ → Vertex → IsdAsn → Option EdgeFound → List Edge
+whole_edges k v w None = []
+whole_edges k v w (Some j) = whole_edge k v w j ∷ []

@@ -1,6 +1,6 @@
 -- The first of equal segments: what is read of a segment before it is compared with another, and marks that equal segments share.
 -- Assumes nothing.
-use Rattle.std.specs.Prelude.{ℕ, ◌+◌, ◌*◌, ◌%◌, ◌≤◌, ◌<◌, ◌≡◌, false, List, get_or, if◌then◌else◌}
+use Rattle.std.specs.Prelude.{ℕ, ◌+◌, ◌*◌, ◌%◌, ◌≤◌, ◌<◌, ◌≡◌, Bool, true, false, List, get_or}
 use Rattle.spec.specs.Limits.{max_entries}
 use Rattle.spec.specs.Octets.{be64}
 use Rattle.spec.specs.Book.{Segment, segments, segment_at, head_offset}
@@ -34,15 +34,15 @@ pub record NoneBelow (b : List ℕ) (k j : ℕ) : Type 0 where
 unfoldable pub mark_of : Segment → ℕ
 mark_of s = (s.timestamp + s.id + get_or s.body egress_low 0 + get_or s.body mac_last 0) % 256
 
--- 1 where the segment at k is the first of its equals, else 0
-unfoldable pub first_at : List ℕ → ℕ → ℕ
-first_at b k = if is_first (segments b) (segment_at b k) then 1 else 0
+-- the segment at k is the first of its equals
+unfoldable pub first_at : List ℕ → ℕ → Bool
+first_at b k = is_first (segments b) (segment_at b k)
 
 -- the same for each of n positions
-pub record Firsts (b : List ℕ) (n : ℕ) (w : List ℕ) : Type 0 where
-  pub each : (i : ℕ) → i < n → get_or w i 0 ≡ first_at b i
+pub record Firsts (b : List ℕ) (n : ℕ) (w : List Bool) : Type 0 where
+  pub each : (i : ℕ) → i < n → get_or w i false ≡ first_at b i
 
 -- the marks of the segments before k are seen, and none where there are none
-pub record Seen (b : List ℕ) (k : ℕ) (w : List ℕ) : Type 0 where
-  pub marked : (i : ℕ) → i < k → get_or w (mark_of (segment_at b i)) 0 ≡ 1
-  pub empty : k ≡ 0 → (i : ℕ) → get_or w i 0 ≡ 0
+pub record Seen (b : List ℕ) (k : ℕ) (w : List Bool) : Type 0 where
+  pub marked : (i : ℕ) → i < k → get_or w (mark_of (segment_at b i)) false ≡ true
+  pub empty : k ≡ 0 → (i : ℕ) → get_or w i false ≡ false

@@ -1,6 +1,6 @@
 -- The edges of a segment as the code finds them: between two vertices, and those that leave an AS, entry by entry and at each entry peer by peer.
 -- Assumes nothing.
-use Rattle.std.specs.Prelude.{ℕ, ◌+◌, ◌-◌, Bool, ◌&&◌, ◌||◌, length, ltb, eqb, if◌then◌else◌}
+use Rattle.std.specs.Prelude.{ℕ, ◌+◌, ◌-◌, ◌<◌, ◌≡◌, Bool, ◌&&◌, ◌||◌, Option, Some, None, length, ltb, eqb, if◌then◌else◌}
 use mathlib.Core.List.{List, [], ◌∷◌, ◌++◌, flat_map}
 use Rattle.spec.specs.declared.IsdAsn.{IsdAsn}
 use Rattle.spec.specs.declared.Vertex.{Vertex}
@@ -37,6 +37,11 @@ module _ (seg : Segment) where
   -- the first of the entries below n that has an AS; n where none has
   unfoldable pub entry_with : IsdAsn → ℕ → ℕ
   entry_with a n = first_with (is_entry_of a) 0 n
+
+  -- as an answer: that entry, or none
+  abbrev pub FoundEntry : IsdAsn → ℕ → Option ℕ → Type 0
+  FoundEntry a n (Some i) = (i ≡ entry_with a n) × (i < n)
+  FoundEntry a n None = n ≡ entry_with a n
 
   -- an entry has an AS
   unfoldable pub has_as : IsdAsn → Bool

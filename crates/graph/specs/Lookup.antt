@@ -1,14 +1,12 @@
 -- What a segment stores between two vertices, and what it stores that leaves a vertex.
 -- Assumes nothing.
-use Rattle.std.specs.Prelude.{Bool, ◌&&◌, List, [], ◌∷◌}
+use Rattle.std.specs.Prelude.{Bool, ◌&&◌, List, [], ◌∷◌, Option, Some, None}
 use Rattle.spec.specs.declared.Vertex.{Vertex}
 use Rattle.spec.specs.declared.Edge.{Edge}
 use Rattle.spec.specs.Basics.{filter}
 use Rattle.spec.specs.Book.{Segment}
 use Rattle.spec.specs.Edges.{same_vertex, stored_of}
 use Rattle.spec.specs.Chains.{leaves}
-use Rattle.graph.specs.declared.edges.Found.{Found}
-use Rattle.graph.specs.declared.edges.Found.TheVariants.{Edge as FoundEdge, Nothing}
 
 -- an edge with these ends
 unfoldable pub has_ends : Vertex → Vertex → Edge → Bool
@@ -23,6 +21,6 @@ unfoldable pub leaving_of : Vertex → Segment → List Edge
 leaving_of v seg = filter (leaves v) (stored_of seg)
 
 -- an answer as a list of at most one edge
-unfoldable pub found_edges : Found → List Edge
-found_edges (FoundEdge e) = e ∷ []
-found_edges Nothing = []
+unfoldable pub found_edges : Option Edge → List Edge
+found_edges (Some e) = e ∷ []
+found_edges None = []

@@ -6,15 +6,13 @@ ghost use Rattle.records.specs.Octets.{record_octets};
 ghost use Rattle.book.specs.Offsets.{open_table};
 ghost use Rattle.graph.specs.Lookup.{found_edges};
 ghost use Rattle.graph.specs.Identity.{identified_in};
-ghost use Rattle.graph.specs.Ready.{Ready};
 ghost use Rattle.graph.specs.Recorded.{chain_in, recorded, recorded_chains};
 ghost use Rattle.graph.specs.RecordWalk.{Bounded, begun, goes_on, one_further, kinds_allowed, own_edge, own_solution, has_arrived, completed};
 
-use crate::edges::Found;
-use crate::opened::WORD;
-use crate::{Chain, edge_by_identity, first_of_equals, opened, slots, vertices};
+use crate::opened::{Opened, WORD, be64_within};
+use crate::{edge_by_identity, first_of_equals, slots};
 use book::PLACES;
-use spec::{Edge, IsdAsn, Solution, SolutionEdge, Verdict, Vertex};
+use spec::{Edge, IsdAsn, Refusal, Solution, SolutionEdge, Vertex};
 
 // ---- what a record says
 
@@ -24,10 +22,10 @@ fn same_words(a: &[u8], b: &[u8]) -> bool
     requires b_len { length b.now ≡ solution_size }
     ensures { result ≡ same_list a.now b.now }
 {
-    if opened::word_within(a, 0) != opened::word_within(b, 0) {
+    if be64_within(a, 0) != be64_within(b, 0) {
         return false;
     }
-    opened::word_within(a, WORD) == opened::word_within(b, WORD)
+    be64_within(a, WORD) == be64_within(b, WORD)
 }
 
 // The record is that of a solution.
@@ -40,21 +38,20 @@ fn same_record(given: &[u8], s: Solution) -> bool
 }
 
 // The stored edge with an identity.
-fn edge_of(book: &[u8], table: &[u16; PLACES], id: SolutionEdge) -> Found
-    requires { Ready book.now table.now }
-    ensures { found_edges result ≡ identified_in book.now id }
+fn edge_of(opened: &Opened, id: SolutionEdge) -> Option<Edge>
+    ensures { found_edges result ≡ identified_in opened.now.book.now id }
 {
-    let sizes = opened::sizes_within(book);
-    if sizes.cores + sizes.others <= (id.position as u16) {
-        return Found::Nothing;
+    let sizes = opened.sizes();
+    if sizes.cores + sizes.others <= u16::from(id.position) {
+        return None;
     }
-    if opened::count_of(book, id.position) == 0 {
-        return Found::Nothing;
+    if opened.count_of(id.position) == 0 {
+        return None;
     }
-    if !first_of_equals::is_first(book, table, id.position) {
-        return Found::Nothing;
+    if !first_of_equals::is_first(opened, id.position) {
+        return None;
     }
-    edge_by_identity::stored_edge(book, table, id)
+    edge_by_identity::stored_edge(opened, id)
 }
 
 // ---- edges in a row
@@ -72,12 +69,10 @@ struct Reached {
 fn goes_on(dst: IsdAsn, reached: Reached, e: Edge) -> bool
     ensures { result ≡ goes_on dst reached e }
 {
-    let at = reached.at;
-    if vertices::same_vertex(at, Vertex::AS(dst)) {
+    if reached.at == Vertex::AS(dst) {
         return false;
     }
-    let from = e.src;
-    vertices::same_vertex(from, at)
+    e.src == reached.at
 }
 
 // What is reached by one edge more.
@@ -85,9 +80,8 @@ fn one_further(reached: Reached, e: Edge) -> Reached
     requires { Bounded (max_edges - 1) reached }
     ensures { (result ≡ one_further reached e) × (result.cost ≤ reached.cost + 255) }
 {
-    let to = e.dst;
     Reached {
-        at: to,
+        at: e.dst,
         cost: reached.cost + slots::weight(e),
         kinds: reached.kinds * 2 + records::bit(e.core),
     }
@@ -99,13 +93,11 @@ fn one_further(reached: Reached, e: Edge) -> Reached
 fn kinds_allowed(count: u8, kinds: u8) -> bool
     ensures { result ≡ kinds_allowed count kinds }
 {
-    if count == 1 {
-        return true;
+    match count {
+        1 => true,
+        2 => kinds != 3,
+        _ => kinds == 2,
     }
-    if count == 2 {
-        return kinds != 3;
-    }
-    kinds == 2
 }
 
 // Edge k of a record that names `count`.
@@ -140,8 +132,7 @@ fn arrives(dst: IsdAsn, given: &[u8], count: u8, reached: Reached) -> bool
     requires count_le_max_edges { count ≤ max_edges }
     ensures { result ≡ has_arrived dst given.now count reached }
 {
-    let at = reached.at;
-    if !vertices::same_vertex(at, Vertex::AS(dst)) {
+    if reached.at != Vertex::AS(dst) {
         return false;
     }
     if !kinds_allowed(count, reached.kinds) {
@@ -153,36 +144,25 @@ fn arrives(dst: IsdAsn, given: &[u8], count: u8, reached: Reached) -> bool
 // ---- all
 
 // The first `count` edges that the record names are a chain, and the record is its.
-fn is_chain(
-    src: IsdAsn,
-    dst: IsdAsn,
-    book: &[u8],
-    table: &[u16; PLACES],
-    given: &[u8],
-    count: u8,
-) -> bool
-    requires ready { Ready book.now table.now }
+fn is_chain(src: IsdAsn, dst: IsdAsn, opened: &Opened, given: &[u8], count: u8) -> bool
     requires given_len { length given.now ≡ solution_size }
     requires count_le_max_edges { count ≤ max_edges }
-    ensures { result ≡ completed book.now dst given.now count (begun src) 0 }
+    ensures { result ≡ completed opened.now.book.now dst given.now count (begun src) 0 }
 {
     let mut reached = Reached {
         at: Vertex::AS(src),
         cost: 0,
         kinds: 0,
     };
-    let mut x: u8 = 0;
-    while x < count {
+    for x in 0..count {
         let id = records::edge(given, x);
-        let found = edge_of(book, table, id);
-        let Found::Edge(e) = found else {
+        let Some(e) = edge_of(opened, id) else {
             return false;
         };
         if !goes_on(dst, reached, e) {
             return false;
         }
         reached = one_further(reached, e);
-        x += 1;
     }
     arrives(dst, given, count, reached)
 }
@@ -190,22 +170,21 @@ fn is_chain(
 // The most edges that a record can name.
 const MOST: u8 = Solution::EDGES as u8;
 
-// The chain of a record in an accepted book. Its length is tested first: the compiler then knows it at every read.
-fn chain_in(src: IsdAsn, dst: IsdAsn, book: &[u8], table: &[u16; PLACES], given: &[u8]) -> Chain
-    requires { Ready book.now table.now }
-    ensures { result ≡ chain_in (recorded_chains book.now src dst given.now) }
+// The chain of a record in an accepted book: how many edges it has, which are those that the record names. A stranger's record is of none. Its length is tested first: the compiler then knows it at every read.
+fn chain_in(src: IsdAsn, dst: IsdAsn, opened: &Opened, given: &[u8]) -> Option<u8>
+    ensures { result ≡ chain_in (recorded_chains opened.now.book.now src dst given.now) }
 {
     if given.len() != Solution::SIZE {
-        return Chain::Stranger;
+        return None;
     }
     let count = records::edge_count(given);
     if MOST < count {
-        return Chain::Stranger;
+        return None;
     }
-    if is_chain(src, dst, book, table, given, count) {
-        return Chain::Edges(count);
+    if is_chain(src, dst, opened, given, count) {
+        return Some(count);
     }
-    Chain::Stranger
+    None
 }
 
 // The chain that the record `given` is of. The table of entry offsets is left for the caller, who needs it
@@ -216,12 +195,10 @@ pub fn chain_of(
     book: &[u8],
     given: &[u8],
     table: &mut [u16; PLACES],
-) -> Chain
+) -> Result<Option<u8>, Refusal>
     ensures { (result ≡ recorded book.now src dst given.now) × (table.new ≡ open_table book.now) }
 {
-    let v = book::open(book, table);
-    if let Verdict::Refused(r) = v {
-        return Chain::Refused(r);
-    }
-    chain_in(src, dst, book, table, given)
+    book::open(book, table)?;
+    let opened = Opened { book, table };
+    Ok(chain_in(src, dst, &opened, given))
 }

@@ -2,59 +2,58 @@
 ghost use Rattle.std.specs.Prelude.{◌≡◌, true, false, ◌<◌};
 ghost use Rattle.spec.specs.Book.{segment_at, segment_count};
 ghost use Rattle.graph.specs.Lookup.{found_edges};
-ghost use Rattle.graph.specs.Ready.{Ready, Filled};
+ghost use Rattle.graph.specs.Ready.{Filled};
 ghost use Rattle.graph.specs.Identity.{identified};
 
-use crate::edges::Found;
-use crate::{edges, opened};
-use book::PLACES;
+use crate::edges;
+use crate::opened::Opened;
 use spec::{Edge, SolutionEdge, Vertex};
 
 // ---- a core segment
 
 // Its two edges are one where it has one entry, and then in construction direction.
-fn core_edge(book: &[u8], table: &[u16; PLACES], n: u8, id: SolutionEdge) -> Found
-    requires filled { Filled book.now table.now id.position n }
-    requires position_value { (segment_at book.now id.position).core ≡ true }
-    ensures { found_edges result ≡ identified (segment_at book.now id.position) id }
+fn core_edge(opened: &Opened, n: u8, id: SolutionEdge) -> Option<Edge>
+    requires filled { Filled opened.now.book.now id.position n }
+    requires position_value { (segment_at opened.now.book.now id.position).core ≡ true }
+    ensures { found_edges result ≡ identified (segment_at opened.now.book.now id.position) id }
 {
     if 0 < id.shortcut {
-        return Found::Nothing;
+        return None;
     }
     if 0 < id.peer {
-        return Found::Nothing;
+        return None;
     }
     let k = id.position;
-    let first = opened::as_at(book, table, k, 0);
-    let last = opened::as_at(book, table, k, n - 1);
+    let first = opened.as_at(k, 0);
+    let last = opened.as_at(k, n - 1);
     if id.construction {
-        return Found::Edge(edges::edge_of_core(k, n, first, last, true));
+        return Some(edges::edge_of_core(k, n, first, last, true));
     }
     if n == 1 {
-        return Found::Nothing;
+        return None;
     }
-    Found::Edge(edges::edge_of_core(k, n, last, first, false))
+    Some(edges::edge_of_core(k, n, last, first, false))
 }
 
 // ---- an AS edge
 
 // It stands where the entry is not the leaf.
-fn as_edge(book: &[u8], table: &[u16; PLACES], n: u8, id: SolutionEdge) -> Found
-    requires filled { Filled book.now table.now id.position n }
-    requires position_value { (segment_at book.now id.position).core ≡ false }
+fn as_edge(opened: &Opened, n: u8, id: SolutionEdge) -> Option<Edge>
+    requires filled { Filled opened.now.book.now id.position n }
+    requires position_value { (segment_at opened.now.book.now id.position).core ≡ false }
     requires shortcut_lt_n { id.shortcut < n }
     requires peer_value { id.peer ≡ 0 }
-    ensures { found_edges result ≡ identified (segment_at book.now id.position) id }
+    ensures { found_edges result ≡ identified (segment_at opened.now.book.now id.position) id }
 {
     let k = id.position;
     let i = id.shortcut;
     if i == n - 1 {
-        return Found::Nothing;
+        return None;
     }
-    let here = opened::as_at(book, table, k, i);
-    let leaf = opened::as_at(book, table, k, n - 1);
+    let here = opened.as_at(k, i);
+    let leaf = opened.as_at(k, n - 1);
     if id.construction {
-        return Found::Edge(Edge {
+        return Some(Edge {
             src: Vertex::AS(here),
             dst: Vertex::AS(leaf),
             weight: n - 1 - i,
@@ -65,7 +64,7 @@ fn as_edge(book: &[u8], table: &[u16; PLACES], n: u8, id: SolutionEdge) -> Found
             core: false,
         });
     }
-    Found::Edge(Edge {
+    Some(Edge {
         src: Vertex::AS(leaf),
         dst: Vertex::AS(here),
         weight: n - 1 - i,
@@ -80,30 +79,30 @@ fn as_edge(book: &[u8], table: &[u16; PLACES], n: u8, id: SolutionEdge) -> Found
 // ---- a peer's edge
 
 // It stands where no later peer of the entry has its link.
-fn peer_edge(book: &[u8], table: &[u16; PLACES], n: u8, id: SolutionEdge) -> Found
-    requires filled { Filled book.now table.now id.position n }
-    requires position_value { (segment_at book.now id.position).core ≡ false }
+fn peer_edge(opened: &Opened, n: u8, id: SolutionEdge) -> Option<Edge>
+    requires filled { Filled opened.now.book.now id.position n }
+    requires position_value { (segment_at opened.now.book.now id.position).core ≡ false }
     requires shortcut_lt_n { id.shortcut < n }
     requires peer_nonzero { 0 < id.peer }
-    ensures { found_edges result ≡ identified (segment_at book.now id.position) id }
+    ensures { found_edges result ≡ identified (segment_at opened.now.book.now id.position) id }
 {
     let k = id.position;
     let i = id.shortcut;
     let q = id.peer;
-    if opened::peer_count(book, table, k, i) < q as usize {
-        return Found::Nothing;
+    if opened.peer_count(k, i) < q {
+        return None;
     }
     if !id.construction {
-        return edges::peer_up(book, table, k, i, q - 1);
+        return edges::peer_up(opened, k, i, q - 1);
     }
-    let link = opened::link_at(book, table, k, i, q - 1);
-    if opened::find_peer(book, table, k, i, link) != q {
-        return Found::Nothing;
+    let link = opened.link_at(k, i, q - 1);
+    if opened.find_peer(k, i, link) != q {
+        return None;
     }
-    let leaf = opened::as_at(book, table, k, n - 1);
+    let leaf = opened.as_at(k, n - 1);
     let local = link.local;
     let peer = link.peer;
-    Found::Edge(Edge {
+    Some(Edge {
         src: Vertex::Peering {
             local_ia: peer,
             local_ifid: link.interface,
@@ -122,21 +121,20 @@ fn peer_edge(book: &[u8], table: &[u16; PLACES], n: u8, id: SolutionEdge) -> Fou
 
 // ---- any
 
-pub(crate) fn stored_edge(book: &[u8], table: &[u16; PLACES], id: SolutionEdge) -> Found
-    requires ready { Ready book.now table.now }
-    requires position_bound { id.position < segment_count book.now }
-    ensures { found_edges result ≡ identified (segment_at book.now id.position) id }
+pub(crate) fn stored_edge(opened: &Opened, id: SolutionEdge) -> Option<Edge>
+    requires position_bound { id.position < segment_count opened.now.book.now }
+    ensures { found_edges result ≡ identified (segment_at opened.now.book.now id.position) id }
 {
     let k = id.position;
-    let n = opened::count_of(book, k);
+    let n = opened.count_of(k);
     if n <= id.shortcut {
-        return Found::Nothing;
+        return None;
     }
-    if opened::is_core(book, k) {
-        return core_edge(book, table, n, id);
+    if opened.is_core(k) {
+        return core_edge(opened, n, id);
     }
     if id.peer == 0 {
-        return as_edge(book, table, n, id);
+        return as_edge(opened, n, id);
     }
-    peer_edge(book, table, n, id)
+    peer_edge(opened, n, id)
 }

@@ -9,139 +9,101 @@ ghost use Rattle.spec.specs.Edges.{leaf_as, in_construction};
 ghost use Rattle.graph.specs.Lookup.{between, leaving_of, found_edges};
 ghost use Rattle.graph.specs.Leaving.{entry_count, peer_count_of, as_up, peer_up, joins, entry_with, as_edge_at, down_peer_edge};
 ghost use Rattle.graph.specs.EdgeFound.{whole_edge, whole_edges};
-ghost use Rattle.graph.specs.Ready.{Ready, Filled};
+ghost use Rattle.graph.specs.Ready.{Filled};
 
+use crate::opened::Opened;
 use crate::vertices::Link;
-use crate::{opened, vertices};
-use book::PLACES;
 use spec::{Edge, IsdAsn, Vertex};
-
-// What is found between two vertices.
-#[derive(Clone, Copy)]
-pub(crate) enum Found {
-    Edge(Edge),
-    Nothing,
-}
 
 // ---- between two vertices
 
 // What of an edge to an AS of a non-core segment is not known before it is found.
 #[derive(Clone, Copy)]
 pub(crate) struct EdgeFound {
-    pub found: bool,
     pub construction: bool,
     pub shortcut: u8,
     pub peer: u8,
     pub weight: u8,
 }
 
-fn none_found() -> EdgeFound
-    ensures { result.found ≡ false }
-{
-    EdgeFound {
-        found: false,
-        construction: false,
-        shortcut: 0,
-        peer: 0,
-        weight: 0,
-    }
-}
-
 // The AS edge at the entry below the leaf that has an AS.
-fn as_edge_found(
-    book: &[u8],
-    table: &[u16; PLACES],
-    k: u8,
-    n: u8,
-    a: IsdAsn,
-    construction: bool,
-) -> EdgeFound
-    requires filled { Filled book.now table.now k n }
-    requires k_value { (segment_at book.now k).core ≡ false }
-    ensures { (v : Vertex) (w : IsdAsn) → construction ≡ in_construction (segment_at book.now k) (AS w) → whole_edges k v w result ≡ as_edge_at (segment_at book.now k) v (AS w) (entry_with (segment_at book.now k) a (n - 1)) }
+fn as_edge_found(opened: &Opened, k: u8, n: u8, a: IsdAsn, construction: bool) -> Option<EdgeFound>
+    requires filled { Filled opened.now.book.now k n }
+    requires k_value { (segment_at opened.now.book.now k).core ≡ false }
+    ensures { (v : Vertex) (w : IsdAsn) → construction ≡ in_construction (segment_at opened.now.book.now k) (AS w) → whole_edges k v w result ≡ as_edge_at (segment_at opened.now.book.now k) v (AS w) (entry_with (segment_at opened.now.book.now k) a (n - 1)) }
 {
-    let i = opened::find_as(book, table, k, a, n - 1);
-    EdgeFound {
-        found: i < n - 1,
-        construction: construction,
+    let i = opened.find_as(k, a, n - 1)?;
+    Some(EdgeFound {
+        construction,
         shortcut: i,
         peer: 0,
         weight: n - 1 - i,
-    }
+    })
 }
 
 // The stored edge of a non-core segment from an AS to an AS, of which one is the leaf's. What is answered is small.
-pub(crate) fn edge_between_ases(
-    book: &[u8],
-    table: &[u16; PLACES],
-    k: u8,
-    a: IsdAsn,
-    w: IsdAsn,
-) -> EdgeFound
-    requires ready { Ready book.now table.now }
-    requires k_bound { k < segment_count book.now }
-    requires k_value { (segment_at book.now k).core ≡ false }
-    ensures { whole_edges k (AS a) w result ≡ between (segment_at book.now k) (AS a) (AS w) }
+pub(crate) fn edge_between_ases(opened: &Opened, k: u8, a: IsdAsn, w: IsdAsn) -> Option<EdgeFound>
+    requires k_bound { k < segment_count opened.now.book.now }
+    requires k_value { (segment_at opened.now.book.now k).core ≡ false }
+    ensures { whole_edges k (AS a) w result ≡ between (segment_at opened.now.book.now k) (AS a) (AS w) }
 {
-    let n = opened::count_of(book, k);
+    let n = opened.count_of(k);
     if n == 0 {
-        return none_found();
+        return None;
     }
-    let leaf = opened::as_at(book, table, k, n - 1);
-    if vertices::same_as(leaf, w) {
-        return as_edge_found(book, table, k, n, a, true);
+    let leaf = opened.as_at(k, n - 1);
+    if leaf == w {
+        return as_edge_found(opened, k, n, a, true);
     }
-    if vertices::same_as(leaf, a) {
-        return as_edge_found(book, table, k, n, w, false);
+    if leaf == a {
+        return as_edge_found(opened, k, n, w, false);
     }
-    none_found()
+    None
 }
 
 // The edge to the leaf from the other side of a link, at the entry of its AS.
-fn link_edge_found(book: &[u8], table: &[u16; PLACES], k: u8, n: u8, link: Link) -> EdgeFound
-    requires filled { Filled book.now table.now k n }
-    requires k_value { (segment_at book.now k).core ≡ false }
-    ensures { (v : Vertex) (w : IsdAsn) → true ≡ in_construction (segment_at book.now k) (AS w) → whole_edges k v w result ≡ down_peer_edge (segment_at book.now k) v (AS w) link }
+fn link_edge_found(opened: &Opened, k: u8, n: u8, link: Link) -> Option<EdgeFound>
+    requires filled { Filled opened.now.book.now k n }
+    requires k_value { (segment_at opened.now.book.now k).core ≡ false }
+    ensures { (v : Vertex) (w : IsdAsn) → true ≡ in_construction (segment_at opened.now.book.now k) (AS w) → whole_edges k v w result ≡ down_peer_edge (segment_at opened.now.book.now k) v (AS w) link }
 {
-    let i = opened::find_as(book, table, k, link.local, n);
-    if n <= i {
-        return none_found();
+    let i = opened.find_as(k, link.local, n)?;
+    let q = opened.find_peer(k, i, link);
+    if q == 0 {
+        return None;
     }
-    let q = opened::find_peer(book, table, k, i, link);
-    EdgeFound {
-        found: 0 < q,
+    Some(EdgeFound {
         construction: true,
         shortcut: i,
         peer: q,
         weight: n - 1 - i,
-    }
+    })
 }
 
 // From a vertex to an AS: one of the two is the leaf.
 fn edge_at_leaf(
-    book: &[u8],
-    table: &[u16; PLACES],
+    opened: &Opened,
     k: u8,
     n: u8,
     leaf: IsdAsn,
     v: Vertex,
     w: IsdAsn,
-) -> EdgeFound
-    requires filled { Filled book.now table.now k n }
-    requires k_value { (segment_at book.now k).core ≡ false }
-    requires leaf_value { leaf ≡ leaf_as (segment_at book.now k) }
-    ensures { whole_edges k v w result ≡ between (segment_at book.now k) v (AS w) }
+) -> Option<EdgeFound>
+    requires filled { Filled opened.now.book.now k n }
+    requires k_value { (segment_at opened.now.book.now k).core ≡ false }
+    requires leaf_value { leaf ≡ leaf_as (segment_at opened.now.book.now k) }
+    ensures { whole_edges k v w result ≡ between (segment_at opened.now.book.now k) v (AS w) }
 {
     match v {
-        Vertex::AS(a) => edge_between_ases(book, table, k, a, w),
+        Vertex::AS(a) => edge_between_ases(opened, k, a, w),
         Vertex::Peering {
             local_ia: l,
             local_ifid: i,
             peer_ia: p,
             peer_ifid: j,
         } => {
-            if !vertices::same_as(leaf, w) {
-                return none_found();
+            if leaf != w {
+                return None;
             }
             let link = Link {
                 local: p,
@@ -149,38 +111,23 @@ fn edge_at_leaf(
                 peer: l,
                 interface: i,
             };
-            link_edge_found(book, table, k, n, link)
+            link_edge_found(opened, k, n, link)
         }
     }
 }
 
 // The stored edge of a non-core segment from a vertex to an AS. Most segments are passed over after a look at the
 // leaf's AS, and what is answered is small.
-pub(crate) fn edge_to_as(
-    book: &[u8],
-    table: &[u16; PLACES],
-    k: u8,
-    v: Vertex,
-    w: IsdAsn,
-) -> EdgeFound
-    requires ready { Ready book.now table.now }
-    requires k_bound { k < segment_count book.now }
-    requires k_value { (segment_at book.now k).core ≡ false }
-    ensures { whole_edges k v w result ≡ between (segment_at book.now k) v (AS w) }
+pub(crate) fn edge_to_as(opened: &Opened, k: u8, v: Vertex, w: IsdAsn) -> Option<EdgeFound>
+    requires k_bound { k < segment_count opened.now.book.now }
+    requires k_value { (segment_at opened.now.book.now k).core ≡ false }
+    ensures { whole_edges k v w result ≡ between (segment_at opened.now.book.now k) v (AS w) }
 {
-    let n = opened::count_of(book, k);
+    let n = opened.count_of(k);
     if n == 0 {
-        return none_found();
+        return None;
     }
-    edge_at_leaf(
-        book,
-        table,
-        k,
-        n,
-        opened::as_at(book, table, k, n - 1),
-        v,
-        w,
-    )
+    edge_at_leaf(opened, k, n, opened.as_at(k, n - 1), v, w)
 }
 
 // The whole edge.
@@ -199,22 +146,13 @@ pub(crate) fn whole_edge(k: u8, v: Vertex, w: IsdAsn, j: EdgeFound) -> Edge
     }
 }
 
-fn both_same(a: IsdAsn, b: IsdAsn, c: IsdAsn, d: IsdAsn) -> bool
-    ensures { result ≡ (same_as a b && same_as c d) }
-{
-    if !vertices::same_as(a, b) {
-        return false;
-    }
-    vertices::same_as(c, d)
-}
-
 fn joins(first: IsdAsn, last: IsdAsn, a: IsdAsn, c: IsdAsn) -> bool
     ensures { result ≡ joins first last a c }
 {
-    if both_same(first, a, last, c) {
+    if first == a && last == c {
         return true;
     }
-    both_same(last, a, first, c)
+    last == a && first == c
 }
 
 // The edge of the core segment at k, of n entries, from its one end to the other.
@@ -229,96 +167,82 @@ pub(crate) fn edge_of_core(k: u8, n: u8, from: IsdAsn, to: IsdAsn, construction:
         shortcut: 0,
         peer: 0,
         position: k,
-        construction: construction,
+        construction,
         core: true,
     }
 }
 
-fn core_between(
-    book: &[u8],
-    table: &[u16; PLACES],
-    k: u8,
-    n: u8,
-    last: IsdAsn,
-    v: Vertex,
-    w: IsdAsn,
-) -> Found
-    requires filled { Filled book.now table.now k n }
-    requires k_value { (segment_at book.now k).core ≡ true }
-    requires last_value { last ≡ leaf_as (segment_at book.now k) }
-    ensures { found_edges result ≡ between (segment_at book.now k) v (AS w) }
+fn core_between(opened: &Opened, k: u8, n: u8, last: IsdAsn, v: Vertex, w: IsdAsn) -> Option<Edge>
+    requires filled { Filled opened.now.book.now k n }
+    requires k_value { (segment_at opened.now.book.now k).core ≡ true }
+    requires last_value { last ≡ leaf_as (segment_at opened.now.book.now k) }
+    ensures { found_edges result ≡ between (segment_at opened.now.book.now k) v (AS w) }
 {
     let Vertex::AS(a) = v else {
-        return Found::Nothing;
+        return None;
     };
-    if joins(opened::as_at(book, table, k, 0), last, a, w) {
-        return Found::Edge(edge_of_core(k, n, a, w, vertices::same_as(w, last)));
+    if joins(opened.as_at(k, 0), last, a, w) {
+        return Some(edge_of_core(k, n, a, w, w == last));
     }
-    Found::Nothing
+    None
 }
 
 // The stored edge from a vertex to an AS.
-pub(crate) fn between(book: &[u8], table: &[u16; PLACES], k: u8, v: Vertex, w: IsdAsn) -> Found
-    requires ready { Ready book.now table.now }
-    requires k_bound { k < segment_count book.now }
-    ensures { found_edges result ≡ between (segment_at book.now k) v (AS w) }
+pub(crate) fn between(opened: &Opened, k: u8, v: Vertex, w: IsdAsn) -> Option<Edge>
+    requires k_bound { k < segment_count opened.now.book.now }
+    ensures { found_edges result ≡ between (segment_at opened.now.book.now k) v (AS w) }
 {
-    let n = opened::count_of(book, k);
+    let n = opened.count_of(k);
     if n == 0 {
-        return Found::Nothing;
+        return None;
     }
-    let leaf = opened::as_at(book, table, k, n - 1);
-    if opened::is_core(book, k) {
-        return core_between(book, table, k, n, leaf, v, w);
+    let leaf = opened.as_at(k, n - 1);
+    if opened.is_core(k) {
+        return core_between(opened, k, n, leaf, v, w);
     }
-    let j = edge_at_leaf(book, table, k, n, leaf, v, w);
-    if j.found {
-        return Found::Edge(whole_edge(k, v, w, j));
-    }
-    Found::Nothing
+    let j = edge_at_leaf(opened, k, n, leaf, v, w)?;
+    Some(whole_edge(k, v, w, j))
 }
 
 // ---- from a vertex
 
 // The stored edge of a core segment that leaves a vertex.
-pub(crate) fn core_leaving(book: &[u8], table: &[u16; PLACES], k: u8, v: Vertex) -> Found
-    requires ready { Ready book.now table.now }
-    requires k_bound { k < segment_count book.now }
-    requires k_value { (segment_at book.now k).core ≡ true }
-    ensures { found_edges result ≡ leaving_of v (segment_at book.now k) }
+pub(crate) fn core_leaving(opened: &Opened, k: u8, v: Vertex) -> Option<Edge>
+    requires k_bound { k < segment_count opened.now.book.now }
+    requires k_value { (segment_at opened.now.book.now k).core ≡ true }
+    ensures { found_edges result ≡ leaving_of v (segment_at opened.now.book.now k) }
 {
-    let n = opened::count_of(book, k);
+    let n = opened.count_of(k);
     if n == 0 {
-        return Found::Nothing;
+        return None;
     }
     let Vertex::AS(a) = v else {
-        return Found::Nothing;
+        return None;
     };
-    let first = opened::as_at(book, table, k, 0);
-    let last = opened::as_at(book, table, k, n - 1);
-    if vertices::same_as(first, a) {
-        return Found::Edge(edge_of_core(k, n, first, last, true));
+    let first = opened.as_at(k, 0);
+    let last = opened.as_at(k, n - 1);
+    if first == a {
+        return Some(edge_of_core(k, n, first, last, true));
     }
-    if vertices::same_as(last, a) {
-        return Found::Edge(edge_of_core(k, n, last, first, false));
+    if last == a {
+        return Some(edge_of_core(k, n, last, first, false));
     }
-    Found::Nothing
+    None
 }
 
 // The edge from the leaf to the AS of entry i, where that is not the leaf.
-pub(crate) fn as_up(book: &[u8], table: &[u16; PLACES], k: u8, i: u8) -> Found
-    requires ready { Ready book.now table.now }
-    requires k_bound { k < segment_count book.now }
-    requires i_bound { i < entry_count (segment_at book.now k) }
-    ensures { found_edges result ≡ as_up (segment_at book.now k) i }
+pub(crate) fn as_up(opened: &Opened, k: u8, i: u8) -> Option<Edge>
+    requires k_bound { k < segment_count opened.now.book.now }
+    requires i_bound { i < entry_count (segment_at opened.now.book.now k) }
+    ensures { found_edges result ≡ as_up (segment_at opened.now.book.now k) i }
 {
-    let n = opened::count_of(book, k);
+    let n = opened.count_of(k);
     if i == n - 1 {
-        return Found::Nothing;
+        return None;
     }
-    let here = opened::as_at(book, table, k, i);
-    let leaf = opened::as_at(book, table, k, n - 1);
-    Found::Edge(Edge {
+    let here = opened.as_at(k, i);
+    let leaf = opened.as_at(k, n - 1);
+    Some(Edge {
         src: Vertex::AS(leaf),
         dst: Vertex::AS(here),
         weight: n - 1 - i,
@@ -326,28 +250,27 @@ pub(crate) fn as_up(book: &[u8], table: &[u16; PLACES], k: u8, i: u8) -> Found
         peer: 0,
         position: k,
         construction: false,
-        core: opened::is_core(book, k),
+        core: opened.is_core(k),
     })
 }
 
 // The edge from the leaf to the peering end of peer p of entry i, where no later peer of the entry has it.
-pub(crate) fn peer_up(book: &[u8], table: &[u16; PLACES], k: u8, i: u8, p: u8) -> Found
-    requires ready { Ready book.now table.now }
-    requires k_bound { k < segment_count book.now }
-    requires i_bound { i < entry_count (segment_at book.now k) }
-    requires p_bound { p < peer_count_of (segment_at book.now k) i }
-    ensures { found_edges result ≡ peer_up (segment_at book.now k) i p }
+pub(crate) fn peer_up(opened: &Opened, k: u8, i: u8, p: u8) -> Option<Edge>
+    requires k_bound { k < segment_count opened.now.book.now }
+    requires i_bound { i < entry_count (segment_at opened.now.book.now k) }
+    requires p_bound { p < peer_count_of (segment_at opened.now.book.now k) i }
+    ensures { found_edges result ≡ peer_up (segment_at opened.now.book.now k) i p }
 {
-    let link = opened::link_at(book, table, k, i, p);
-    let q = opened::find_peer(book, table, k, i, link);
+    let link = opened.link_at(k, i, p);
+    let q = opened.find_peer(k, i, link);
     if q - 1 != p {
-        return Found::Nothing;
+        return None;
     }
-    let n = opened::count_of(book, k);
-    let leaf = opened::as_at(book, table, k, n - 1);
+    let n = opened.count_of(k);
+    let leaf = opened.as_at(k, n - 1);
     let local = link.local;
     let peer = link.peer;
-    Found::Edge(Edge {
+    Some(Edge {
         src: Vertex::AS(leaf),
         dst: Vertex::Peering {
             local_ia: local,
@@ -360,6 +283,6 @@ pub(crate) fn peer_up(book: &[u8], table: &[u16; PLACES], k: u8, i: u8, p: u8) -
         peer: q,
         position: k,
         construction: false,
-        core: opened::is_core(book, k),
+        core: opened.is_core(k),
     })
 }

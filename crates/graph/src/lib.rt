@@ -6,7 +6,6 @@ ghost use Rattle.std.specs.Prelude.{◌≡◌, ◌*◌, ◌/◌, length};
 ghost use Rattle.sha256.specs.Message.{sha256};
 ghost use Rattle.spec.specs.Records.{slots};
 ghost use Rattle.spec.specs.Answers.{listing};
-ghost use Rattle.graph.specs.Ready.{Ready};
 
 mod chains;
 mod edge_by_identity;
@@ -19,60 +18,49 @@ mod vertices;
 
 use book::PLACES;
 pub use chains::chain_of;
-use spec::{IsdAsn, Limits, ListAnswer, Refusal, Solution, Verdict};
-
-// The chain that a record is of: a refused book has none, a stranger's record is of none, and of a chain the
-// number of its edges, which are those that the record names. `specs/Recorded.antt` has its numbers.
-#[derive(Clone, Copy)]
-pub enum Chain {
-    Refused(Refusal),
-    Stranger,
-    Edges(u8),
-}
+pub use opened::Opened;
+use spec::{IsdAsn, Limits, Refusal, Solution};
 
 // How many solutions fit in so many bytes.
 fn slots_of(bytes: usize) -> usize
     ensures { result ≡ slots bytes }
 {
-    let n = bytes / Solution::SIZE;
-    if n < Limits::SLOTS {
-        return n;
-    }
-    Limits::SLOTS
+    (bytes / Solution::SIZE).min(Limits::SLOTS)
 }
 
 // The list of an accepted book.
 fn list_accepted(
     src: IsdAsn,
     dst: IsdAsn,
-    book: &[u8],
-    table: &[u16; PLACES],
+    opened: &Opened,
     out: &mut [u8],
-) -> ListAnswer
-    requires { Ready book.now table.now }
-    ensures { (result, out.new) ≡ listing sha256 book.now src dst (length out.old) }
+) -> Result<usize, Refusal>
+    ensures { (result, out.new) ≡ listing sha256 opened.now.book.now src dst (length out.old) }
 {
     let room = slots_of(out.len());
-    let n = search::search(book, table, src, dst, out, room);
+    let n = search::search(opened, src, dst, out, room);
     if room < n {
         output::zero(out, 0);
-        return ListAnswer::Refused(Refusal::Full);
+        return Err(Refusal::Full);
     }
-    order::sort(book, out, n);
+    order::sort(opened.book, out, n);
     output::zero(out, Solution::SIZE * n);
-    ListAnswer::Count(n)
+    Ok(n)
 }
 
 // Lists every chain from `src` to `dst` into `out`: their count and their records in order, or a refusal
 // and zeros.
-pub fn list(src: IsdAsn, dst: IsdAsn, book: &[u8], out: &mut [u8]) -> ListAnswer
+pub fn list(src: IsdAsn, dst: IsdAsn, book: &[u8], out: &mut [u8]) -> Result<usize, Refusal>
     ensures { (result, out.new) ≡ listing sha256 book.now src dst (length out.old) }
 {
     let mut table = [0u16; PLACES];
-    let v = book::open(book, &mut table);
-    if let Verdict::Refused(r) = v {
+    if let Err(r) = book::open(book, &mut table) {
         output::zero(out, 0);
-        return ListAnswer::Refused(r);
+        return Err(r);
     }
-    list_accepted(src, dst, book, &table, out)
+    let opened = Opened {
+        book,
+        table: &table,
+    };
+    list_accepted(src, dst, &opened, out)
 }

@@ -12,35 +12,33 @@ ghost use Rattle.graph.specs.Leaving.{entry_count, peer_count_of, peer_up, ups_a
 ghost use Rattle.graph.specs.Search.{over_firsts, ends_at_as, chains_from, across_with, chains_with, last_in, chains_in, found_chains};
 ghost use Rattle.graph.specs.EdgeFound.{whole_edges};
 ghost use Rattle.graph.specs.Pushed.{Room, Pushes};
-ghost use Rattle.graph.specs.Ready.{Ready};
 ghost use Rattle.graph.specs.FirstOfEquals.{first_at};
 ghost use Rattle.graph.specs.Prepared.{begins, arrives, Planned, Prepared};
 
-use crate::edges::{EdgeFound, Found};
-use crate::opened::Ends;
-use crate::{edges, first_of_equals, opened, slots, vertices};
-use book::PLACES;
+use crate::edges::EdgeFound;
+use crate::opened::{Ends, Opened};
+use crate::{edges, first_of_equals, slots};
 use spec::{Edge, IsdAsn, Limits, Vertex};
 
-// What is worked out before the search: for each position 1 where chains may begin, else 0, and then, for each and for
-// the one past the last, the next position from there on where chains may arrive, by which the loop over last edges goes.
-const NEXT: usize = Limits::SEGMENTS;
+// What is worked out before the search: for each position whether chains may begin there, and for each and the one past
+// the last the next position from there on where chains may arrive, by which the loop over last edges goes.
+#[derive(Clone, Copy)]
+struct Plan {
+    begins: [bool; Limits::SEGMENTS],
+    nexts: [u8; Limits::SEGMENTS + 1],
+}
 
-const PLAN: usize = 2 * Limits::SEGMENTS + 1;
-
-// What the loops share: how many segments are core, how many there are, where chains begin and arrive, how many slots
-// there are.
+// What is asked: how many segments are core, how many there are, where chains begin and arrive.
 #[derive(Clone, Copy)]
 struct Query {
     cores: u8,
     count: u8,
     src: IsdAsn,
     dst: IsdAsn,
-    slots: usize,
 }
 
 // What stands before a last edge: one that ends at a peering link, one that ends at an AS, or two, of which the second
-// ends at an AS.
+// ends at an AS. An enum and no closure for the step, since it says two things: how an edge is found, and how many are pushed.
 #[derive(Clone, Copy)]
 enum Before {
     Link,
@@ -52,353 +50,267 @@ enum Before {
 
 // The stored edge of a non-core segment from a vertex to an AS. The vertex is told to be a link, or else the AS a.
 fn edge_from(
-    book: &[u8],
-    table: &[u16; PLACES],
+    opened: &Opened,
     k: u8,
     before: Before,
     v: Vertex,
     a: IsdAsn,
     w: IsdAsn,
-) -> EdgeFound
-    requires ready { Ready book.now table.now }
-    requires book_bound { (cores book.now ≤ k) × (k < segment_count book.now) }
+) -> Option<EdgeFound>
+    requires book_bound { (cores opened.now.book.now ≤ k) × (k < segment_count opened.now.book.now) }
     requires fact { (before ≡ Link) ⊎ (v ≡ AS a) }
-    ensures { whole_edges k v w result ≡ between (segment_at book.now k) v (AS w) }
+    ensures { whole_edges k v w result ≡ between (segment_at opened.now.book.now k) v (AS w) }
 {
     match before {
-        Before::Link => edges::edge_to_as(book, table, k, v, w),
-        Before::One => edges::edge_between_ases(book, table, k, a, w),
-        Before::Two => edges::edge_between_ases(book, table, k, a, w),
+        Before::Link => edges::edge_to_as(opened, k, v, w),
+        Before::One => edges::edge_between_ases(opened, k, a, w),
+        Before::Two => edges::edge_between_ases(opened, k, a, w),
     }
 }
 
-// The edge f, or e and f, and one of the non-core segment at k that arrives.
-fn last_edge_in(
-    book: &[u8],
-    table: &[u16; PLACES],
+// ---- the search
+
+// A search: the opened book and its plan, what is asked, and how many slots there are.
+#[derive(Clone, Copy)]
+struct Searching<'a> {
+    opened: Opened<'a>,
+    plan: &'a Plan,
     q: Query,
-    k: u8,
-    before: Before,
-    e: Edge,
-    f: Edge,
-    a: IsdAsn,
-    out: &mut [u8],
-    n: usize,
-) -> usize
-    requires ready { Ready book.now table.now }
-    requires book_bound { (cores book.now ≤ k) × (k < segment_count book.now) }
-    requires fact { (before ≡ Link) ⊎ (f.dst ≡ AS a) }
-    requires room { Room q.slots n out.old }
-    ensures { Pushes q.slots (n, out.old) (result, out.new) (last_in book.now q.dst before e f (segment_at book.now k)) }
-{
-    let from = f.dst;
-    let dst = q.dst;
-    let j = edge_from(book, table, k, before, from, a, dst);
-    if !j.found {
-        return n;
-    }
-    let g = edges::whole_edge(k, from, dst, j);
-    match before {
-        Before::Link => slots::push_two(out, q.slots, n, f, g),
-        Before::One => slots::push_two(out, q.slots, n, f, g),
-        Before::Two => slots::push_three(out, q.slots, n, e, f, g),
-    }
+    slots: usize,
+    ghost prepared: { Prepared opened.book.now plan.now.begins plan.now.nexts q.src q.dst q.cores q.count },
 }
 
-// The same for all. Where f ends is told, so that no turn asks it again: at a link, or else at the AS a.
-fn last_edges(
-    book: &[u8],
-    table: &[u16; PLACES],
-    plan: &[u8; PLAN],
-    q: Query,
-    before: Before,
-    e: Edge,
-    f: Edge,
-    a: IsdAsn,
-    out: &mut [u8],
-    start: usize,
-) -> usize
-    requires prepared { Prepared book.now table.now plan.now q.src q.dst q.cores q.count }
-    requires fact { (before ≡ Link) ⊎ (f.dst ≡ AS a) }
-    requires room { Room q.slots start out.old }
-    ensures { Pushes q.slots (start, out.old) (result, out.new) (over_firsts (last_in book.now q.dst before e f) book.now q.cores (q.count - q.cores)) }
-{
-    let mut n = start;
-    let mut k = plan[NEXT + (q.cores as usize)];
-    while k < q.count {
-        if q.slots < n {
+impl Searching<'_> {
+    // The edge f, or e and f, and one of the non-core segment at k that arrives.
+    fn last_edge_in(
+        &self,
+        k: u8,
+        before: Before,
+        e: Edge,
+        f: Edge,
+        a: IsdAsn,
+        out: &mut [u8],
+        n: usize,
+    ) -> usize
+        requires book_bound { (cores self.now.opened.book.now ≤ k) × (k < segment_count self.now.opened.book.now) }
+        requires fact { (before ≡ Link) ⊎ (f.dst ≡ AS a) }
+        requires room { Room self.now.slots n out.old }
+        ensures { Pushes self.now.slots (n, out.old) (result, out.new) (last_in self.now.opened.book.now self.now.q.dst before e f (segment_at self.now.opened.book.now k)) }
+    {
+        let from = f.dst;
+        let dst = self.q.dst;
+        let Some(j) = edge_from(&self.opened, k, before, from, a, dst) else {
+            return n;
+        };
+        let g = edges::whole_edge(k, from, dst, j);
+        match before {
+            Before::Link => slots::push_two(out, self.slots, n, f, g),
+            Before::One => slots::push_two(out, self.slots, n, f, g),
+            Before::Two => slots::push_three(out, self.slots, n, e, f, g),
+        }
+    }
+
+    // The same for all. Where f ends is told, so that no turn asks it again: at a link, or else at the AS a.
+    fn last_edges(
+        &self,
+        before: Before,
+        e: Edge,
+        f: Edge,
+        a: IsdAsn,
+        out: &mut [u8],
+        start: usize,
+    ) -> usize
+        requires fact { (before ≡ Link) ⊎ (f.dst ≡ AS a) }
+        requires room { Room self.now.slots start out.old }
+        ensures { Pushes self.now.slots (start, out.old) (result, out.new) (over_firsts (last_in self.now.opened.book.now self.now.q.dst before e f) self.now.opened.book.now self.now.q.cores (self.now.q.count - self.now.q.cores)) }
+    {
+        let mut n = start;
+        let mut k = self.plan.nexts[usize::from(self.q.cores)];
+        while k < self.q.count {
+            if self.slots < n {
+                return n;
+            }
+            n = self.last_edge_in(k, before, e, f, a, out, n);
+            k = self.plan.nexts[usize::from(k) + 1];
+        }
+        n
+    }
+
+    // ---- a second edge
+
+    // An edge, and an edge of a core segment that follows it, to an AS: it arrives, or a third follows.
+    fn across_with(&self, e: Edge, f: Edge, out: &mut [u8], n: usize) -> usize
+        requires f_value { ends_at_as f ≡ true }
+        requires room { Room self.now.slots n out.old }
+        ensures { Pushes self.now.slots (n, out.old) (result, out.new) (across_with self.now.opened.book.now self.now.q.dst e f) }
+    {
+        let to = f.dst;
+        let dst = self.q.dst;
+        if to == Vertex::AS(dst) {
+            return slots::push_two(out, self.slots, n, e, f);
+        }
+        let Vertex::AS(a) = to else {
+            return n;
+        };
+        self.last_edges(Before::Two, e, f, a, out, n)
+    }
+
+    // The same for the edge of the core segment at k that follows.
+    fn across_in(&self, k: u8, e: Edge, out: &mut [u8], n: usize) -> usize
+        requires k_lt_cores { k < self.now.q.cores }
+        requires core_value { e.core ≡ false }
+        requires room { Room self.now.slots n out.old }
+        ensures { Pushes self.now.slots (n, out.old) (result, out.new) (chains_with self.now.opened.book.now self.now.q.dst e (segment_at self.now.opened.book.now k)) }
+    {
+        let from = e.dst;
+        let found = edges::core_leaving(&self.opened, k, from);
+        match found {
+            Some(f) => self.across_with(e, f, out, n),
+            None => n,
+        }
+    }
+
+    fn across(&self, e: Edge, out: &mut [u8], start: usize) -> usize
+        requires core_value { e.core ≡ false }
+        requires room { Room self.now.slots start out.old }
+        ensures { Pushes self.now.slots (start, out.old) (result, out.new) (over_firsts (chains_with self.now.opened.book.now self.now.q.dst e) self.now.opened.book.now 0 self.now.q.cores) }
+    {
+        let mut n = start;
+        for k in 0..self.q.cores {
+            if self.slots < n {
+                return n;
+            }
+            if self.plan.begins[usize::from(k)] {
+                n = self.across_in(k, e, out, n);
+            }
+        }
+        n
+    }
+
+    // ---- a first edge
+
+    // The chains that begin with an edge.
+    fn chains_from(&self, e: Edge, out: &mut [u8], n: usize) -> usize
+        requires room { Room self.now.slots n out.old }
+        ensures { Pushes self.now.slots (n, out.old) (result, out.new) (chains_from self.now.opened.book.now self.now.q.dst e) }
+    {
+        let to = e.dst;
+        let dst = self.q.dst;
+        if to == Vertex::AS(dst) {
+            return slots::push_one(out, self.slots, n, e);
+        }
+        let Vertex::AS(a) = to else {
+            return self.last_edges(Before::Link, e, e, dst, out, n);
+        };
+        if e.core {
+            return self.last_edges(Before::One, e, e, a, out, n);
+        }
+        let m = self.across(e, out, n);
+        self.last_edges(Before::One, e, e, a, out, m)
+    }
+
+    // The same for an edge that may not be there.
+    fn chains_of(&self, found: Option<Edge>, out: &mut [u8], n: usize) -> usize
+        requires room { Room self.now.slots n out.old }
+        ensures { Pushes self.now.slots (n, out.old) (result, out.new) (flat_map (chains_from self.now.opened.book.now self.now.q.dst) (found_edges found)) }
+    {
+        match found {
+            Some(e) => self.chains_from(e, out, n),
+            None => n,
+        }
+    }
+
+    // The chains that begin at the leaf with an edge to a peering end of entry i.
+    fn peer_chains(&self, k: u8, i: u8, out: &mut [u8], start: usize) -> usize
+        requires k_bound { k < segment_count self.now.opened.book.now }
+        requires i_bound { i < entry_count (segment_at self.now.opened.book.now k) }
+        requires room { Room self.now.slots start out.old }
+        ensures { Pushes self.now.slots (start, out.old) (result, out.new) (flat_map (chains_from self.now.opened.book.now self.now.q.dst) (flat_map (peer_up (segment_at self.now.opened.book.now k) i) (range 0 (peer_count_of (segment_at self.now.opened.book.now k) i)))) }
+    {
+        let count = self.opened.peer_count(k, i);
+        let mut n = start;
+        for p in 0..count {
+            if self.slots < n {
+                return n;
+            }
+            let found = edges::peer_up(&self.opened, k, i, p);
+            n = self.chains_of(found, out, n);
+        }
+        n
+    }
+
+    // The chains that begin at the leaf.
+    fn leaf_chains(&self, k: u8, count: u8, out: &mut [u8], start: usize) -> usize
+        requires k_bound { k < segment_count self.now.opened.book.now }
+        requires count_value { count ≡ entry_count (segment_at self.now.opened.book.now k) }
+        requires room { Room self.now.slots start out.old }
+        ensures { Pushes self.now.slots (start, out.old) (result, out.new) (flat_map (chains_from self.now.opened.book.now self.now.q.dst) (flat_map (ups_at (segment_at self.now.opened.book.now k)) (range 0 count))) }
+    {
+        let mut n = start;
+        for i in 0..count {
+            if self.slots < n {
+                return n;
+            }
+            let found = edges::as_up(&self.opened, k, i);
+            n = self.chains_of(found, out, n);
+            n = self.peer_chains(k, i, out, n);
+        }
+        n
+    }
+
+    // ---- all segments
+
+    // The chains that begin with an edge of the segment at k.
+    fn chains_in(&self, k: u8, out: &mut [u8], n: usize) -> usize
+        requires k_bound { k < segment_count self.now.opened.book.now }
+        requires room { Room self.now.slots n out.old }
+        ensures { Pushes self.now.slots (n, out.old) (result, out.new) (chains_in self.now.opened.book.now self.now.q.dst self.now.q.src (segment_at self.now.opened.book.now k)) }
+    {
+        let src = self.q.src;
+        let count = self.opened.count_of(k);
+        if count == 0 {
             return n;
         }
-        n = last_edge_in(book, table, q, k, before, e, f, a, out, n);
-        k = plan[NEXT + (k as usize + 1)];
-    }
-    n
-}
-
-// ---- a second edge
-
-// An edge, and an edge of a core segment that follows it, to an AS: it arrives, or a third follows.
-fn across_with(
-    book: &[u8],
-    table: &[u16; PLACES],
-    plan: &[u8; PLAN],
-    q: Query,
-    e: Edge,
-    f: Edge,
-    out: &mut [u8],
-    n: usize,
-) -> usize
-    requires prepared { Prepared book.now table.now plan.now q.src q.dst q.cores q.count }
-    requires f_value { ends_at_as f ≡ true }
-    requires room { Room q.slots n out.old }
-    ensures { Pushes q.slots (n, out.old) (result, out.new) (across_with book.now q.dst e f) }
-{
-    let to = f.dst;
-    let dst = q.dst;
-    if vertices::same_vertex(to, Vertex::AS(dst)) {
-        return slots::push_two(out, q.slots, n, e, f);
-    }
-    let Vertex::AS(a) = to else {
-        return n;
-    };
-    last_edges(book, table, plan, q, Before::Two, e, f, a, out, n)
-}
-
-// The same for the edge of the core segment at k that follows.
-fn across_in(
-    book: &[u8],
-    table: &[u16; PLACES],
-    plan: &[u8; PLAN],
-    q: Query,
-    k: u8,
-    e: Edge,
-    out: &mut [u8],
-    n: usize,
-) -> usize
-    requires prepared { Prepared book.now table.now plan.now q.src q.dst q.cores q.count }
-    requires k_lt_cores { k < q.cores }
-    requires core_value { e.core ≡ false }
-    requires room { Room q.slots n out.old }
-    ensures { Pushes q.slots (n, out.old) (result, out.new) (chains_with book.now q.dst e (segment_at book.now k)) }
-{
-    let from = e.dst;
-    let found = edges::core_leaving(book, table, k, from);
-    match found {
-        Found::Edge(f) => across_with(book, table, plan, q, e, f, out, n),
-        Found::Nothing => n,
-    }
-}
-
-fn across(
-    book: &[u8],
-    table: &[u16; PLACES],
-    plan: &[u8; PLAN],
-    q: Query,
-    e: Edge,
-    out: &mut [u8],
-    start: usize,
-) -> usize
-    requires prepared { Prepared book.now table.now plan.now q.src q.dst q.cores q.count }
-    requires core_value { e.core ≡ false }
-    requires room { Room q.slots start out.old }
-    ensures { Pushes q.slots (start, out.old) (result, out.new) (over_firsts (chains_with book.now q.dst e) book.now 0 q.cores) }
-{
-    let mut n = start;
-    let mut k: u8 = 0;
-    while k < q.cores {
-        if q.slots < n {
-            return n;
+        if k < self.q.cores {
+            let found = edges::core_leaving(&self.opened, k, Vertex::AS(src));
+            return self.chains_of(found, out, n);
         }
-        if 0 < plan[k as usize] {
-            n = across_in(book, table, plan, q, k, e, out, n);
+        let leaf = self.opened.leaf_as(k);
+        if leaf == src {
+            return self.leaf_chains(k, count, out, n);
         }
-        k += 1;
+        let found = edges::between(&self.opened, k, Vertex::AS(src), leaf);
+        self.chains_of(found, out, n)
     }
-    n
-}
 
-// ---- a first edge
-
-// The chains that begin with an edge.
-fn chains_from(
-    book: &[u8],
-    table: &[u16; PLACES],
-    plan: &[u8; PLAN],
-    q: Query,
-    e: Edge,
-    out: &mut [u8],
-    n: usize,
-) -> usize
-    requires prepared { Prepared book.now table.now plan.now q.src q.dst q.cores q.count }
-    requires room { Room q.slots n out.old }
-    ensures { Pushes q.slots (n, out.old) (result, out.new) (chains_from book.now q.dst e) }
-{
-    let to = e.dst;
-    let dst = q.dst;
-    if vertices::same_vertex(to, Vertex::AS(dst)) {
-        return slots::push_one(out, q.slots, n, e);
-    }
-    let Vertex::AS(a) = to else {
-        return last_edges(book, table, plan, q, Before::Link, e, e, dst, out, n);
-    };
-    if e.core {
-        return last_edges(book, table, plan, q, Before::One, e, e, a, out, n);
-    }
-    let m = across(book, table, plan, q, e, out, n);
-    last_edges(book, table, plan, q, Before::One, e, e, a, out, m)
-}
-
-// The same for an edge that may not be there.
-fn chains_of(
-    book: &[u8],
-    table: &[u16; PLACES],
-    plan: &[u8; PLAN],
-    q: Query,
-    found: Found,
-    out: &mut [u8],
-    n: usize,
-) -> usize
-    requires prepared { Prepared book.now table.now plan.now q.src q.dst q.cores q.count }
-    requires room { Room q.slots n out.old }
-    ensures { Pushes q.slots (n, out.old) (result, out.new) (flat_map (chains_from book.now q.dst) (found_edges found)) }
-{
-    match found {
-        Found::Edge(e) => chains_from(book, table, plan, q, e, out, n),
-        Found::Nothing => n,
-    }
-}
-
-// The chains that begin at the leaf with an edge to a peering end of entry i.
-fn peer_chains(
-    book: &[u8],
-    table: &[u16; PLACES],
-    plan: &[u8; PLAN],
-    q: Query,
-    k: u8,
-    i: u8,
-    out: &mut [u8],
-    start: usize,
-) -> usize
-    requires prepared { Prepared book.now table.now plan.now q.src q.dst q.cores q.count }
-    requires k_bound { k < segment_count book.now }
-    requires i_bound { i < entry_count (segment_at book.now k) }
-    requires room { Room q.slots start out.old }
-    ensures { Pushes q.slots (start, out.old) (result, out.new) (flat_map (chains_from book.now q.dst) (flat_map (peer_up (segment_at book.now k) i) (range 0 (peer_count_of (segment_at book.now k) i)))) }
-{
-    let count = opened::peer_count(book, table, k, i);
-    let mut n = start;
-    let mut p: u8 = 0;
-    while (p as usize) < count {
-        if q.slots < n {
-            return n;
+    fn all_chains(&self, out: &mut [u8]) -> usize
+        requires room { Room self.now.slots 0 out.old }
+        ensures { Pushes self.now.slots (0, out.old) (result, out.new) (over_firsts (chains_in self.now.opened.book.now self.now.q.dst self.now.q.src) self.now.opened.book.now 0 self.now.q.count) }
+    {
+        let mut n: usize = 0;
+        for k in 0..self.q.count {
+            if self.slots < n {
+                return n;
+            }
+            if self.plan.begins[usize::from(k)] {
+                n = self.chains_in(k, out, n);
+            }
         }
-        let found = edges::peer_up(book, table, k, i, p);
-        n = chains_of(book, table, plan, q, found, out, n);
-        p += 1;
+        n
     }
-    n
 }
 
-// The chains that begin at the leaf.
-fn leaf_chains(
-    book: &[u8],
-    table: &[u16; PLACES],
-    plan: &[u8; PLAN],
-    q: Query,
-    k: u8,
-    count: u8,
-    out: &mut [u8],
-    start: usize,
-) -> usize
-    requires prepared { Prepared book.now table.now plan.now q.src q.dst q.cores q.count }
-    requires k_bound { k < segment_count book.now }
-    requires count_value { count ≡ entry_count (segment_at book.now k) }
-    requires room { Room q.slots start out.old }
-    ensures { Pushes q.slots (start, out.old) (result, out.new) (flat_map (chains_from book.now q.dst) (flat_map (ups_at (segment_at book.now k)) (range 0 count))) }
-{
-    let mut n = start;
-    let mut i: u8 = 0;
-    while i < count {
-        if q.slots < n {
-            return n;
-        }
-        let found = edges::as_up(book, table, k, i);
-        n = chains_of(book, table, plan, q, found, out, n);
-        n = peer_chains(book, table, plan, q, k, i, out, n);
-        i += 1;
-    }
-    n
-}
-
-// ---- all segments
-
-// The chains that begin with an edge of the segment at k.
-fn chains_in(
-    book: &[u8],
-    table: &[u16; PLACES],
-    plan: &[u8; PLAN],
-    q: Query,
-    k: u8,
-    out: &mut [u8],
-    n: usize,
-) -> usize
-    requires prepared { Prepared book.now table.now plan.now q.src q.dst q.cores q.count }
-    requires k_bound { k < segment_count book.now }
-    requires room { Room q.slots n out.old }
-    ensures { Pushes q.slots (n, out.old) (result, out.new) (chains_in book.now q.dst q.src (segment_at book.now k)) }
-{
-    let src = q.src;
-    let count = opened::count_of(book, k);
-    if count == 0 {
-        return n;
-    }
-    if k < q.cores {
-        let found = edges::core_leaving(book, table, k, Vertex::AS(src));
-        return chains_of(book, table, plan, q, found, out, n);
-    }
-    let leaf = opened::leaf_as(book, table, k);
-    if vertices::same_as(leaf, src) {
-        return leaf_chains(book, table, plan, q, k, count, out, n);
-    }
-    let found = edges::between(book, table, k, Vertex::AS(src), leaf);
-    chains_of(book, table, plan, q, found, out, n)
-}
-
-fn all_chains(
-    book: &[u8],
-    table: &[u16; PLACES],
-    plan: &[u8; PLAN],
-    q: Query,
-    out: &mut [u8],
-) -> usize
-    requires prepared { Prepared book.now table.now plan.now q.src q.dst q.cores q.count }
-    requires room { Room q.slots 0 out.old }
-    ensures { Pushes q.slots (0, out.old) (result, out.new) (over_firsts (chains_in book.now q.dst q.src) book.now 0 q.count) }
-{
-    let mut n: usize = 0;
-    let mut k: u8 = 0;
-    while k < q.count {
-        if q.slots < n {
-            return n;
-        }
-        if 0 < plan[k as usize] {
-            n = chains_in(book, table, plan, q, k, out, n);
-        }
-        k += 1;
-    }
-    n
-}
+// ---- the plan
 
 // Where chains may begin and arrive: of equal segments only in the first. A core segment has no last edge that the plan
 // is asked for, and its entries are not looked at.
-fn begins_and_arrives(book: &[u8], table: &[u16; PLACES], q: Query, k: u8, first: u8) -> Ends
-    requires ready { Ready book.now table.now }
-    requires k_bound { k < segment_count book.now }
-    requires cores_value { q.cores ≡ cores book.now }
-    requires first_value { first ≡ first_at book.now k }
-    ensures { (result.src ≡ begins book.now q.src k) × (result.dst ≡ arrives book.now q.dst k) }
+fn begins_and_arrives(opened: &Opened, q: Query, k: u8, first: bool) -> Ends
+    requires k_bound { k < segment_count opened.now.book.now }
+    requires cores_value { q.cores ≡ cores opened.now.book.now }
+    requires first_value { first ≡ first_at opened.now.book.now k }
+    ensures { (result.src ≡ begins opened.now.book.now q.src k) × (result.dst ≡ arrives opened.now.book.now q.dst k) }
 {
-    if first == 0 {
+    if !first {
         return Ends {
             src: false,
             dst: false,
@@ -410,7 +322,7 @@ fn begins_and_arrives(book: &[u8], table: &[u16; PLACES], q: Query, k: u8, first
             dst: false,
         };
     }
-    opened::ends_among_entries(book, table, k, q.src, q.dst)
+    opened.ends_among_entries(k, q.src, q.dst)
 }
 
 // The next position where chains may arrive, from k on: k itself, or that from the position after it.
@@ -420,53 +332,56 @@ fn next_at(here: bool, k: u8, next: u8) -> u8
     if here { k } else { next }
 }
 
-fn plan_of(book: &[u8], table: &[u16; PLACES], q: Query) -> [u8; PLAN]
-    requires ready { Ready book.now table.now }
-    requires count_value { (q.count ≡ segment_count book.now) × (q.count ≤ max_segments) }
-    requires cores_value { q.cores ≡ cores book.now }
-    ensures { Planned book.now q.src q.dst q.count 0 result }
+fn plan_of(opened: &Opened, q: Query) -> Plan
+    requires count_value { (q.count ≡ segment_count opened.now.book.now) × (q.count ≤ max_segments) }
+    requires cores_value { q.cores ≡ cores opened.now.book.now }
+    ensures { Planned opened.now.book.now q.src q.dst q.count 0 result.begins result.nexts }
 {
     let count = q.count;
-    let firsts = first_of_equals::firsts_of(book, table, count);
-    let mut plan = [0u8; PLAN];
-    plan[NEXT + (count as usize)] = count;
+    let firsts = first_of_equals::firsts_of(opened, count);
+    let mut begins = [false; Limits::SEGMENTS];
+    let mut nexts = [0u8; Limits::SEGMENTS + 1];
+    nexts[usize::from(count)] = count;
     let mut next = count;
     let mut k = count;
     while k > 0 {
         k -= 1;
-        let ends = begins_and_arrives(book, table, q, k, firsts[k as usize]);
+        let ends = begins_and_arrives(opened, q, k, firsts[usize::from(k)]);
         next = next_at(ends.dst, k, next);
-        plan[k as usize] = records::bit(ends.src);
-        plan[NEXT + (k as usize)] = next;
+        begins[usize::from(k)] = ends.src;
+        nexts[usize::from(k)] = next;
     }
-    plan
+    Plan { begins, nexts }
 }
 
 // Pushes all chains from `src` to `dst` of an accepted book into the slots.
 pub(crate) fn search(
-    book: &[u8],
-    table: &[u16; PLACES],
+    opened: &Opened,
     src: IsdAsn,
     dst: IsdAsn,
     out: &mut [u8],
     slots: usize,
 ) -> usize
-    requires ready { Ready book.now table.now }
     requires room { Room slots 0 out.old }
-    ensures { Pushes slots (0, out.old) (result, out.new) (found_chains book.now dst src) }
+    ensures { Pushes slots (0, out.old) (result, out.new) (found_chains opened.now.book.now dst src) }
 {
-    if vertices::same_as(src, dst) {
+    if src == dst {
         return 0;
     }
-    let sizes = opened::sizes_within(book);
+    let sizes = opened.sizes();
     let count = (sizes.cores + sizes.others) as u8;
     let q = Query {
         cores: sizes.cores as u8,
-        count: count,
-        src: src,
-        dst: dst,
-        slots: slots,
+        count,
+        src,
+        dst,
     };
-    let plan = plan_of(book, table, q);
-    all_chains(book, table, &plan, q, out)
+    let plan = plan_of(opened, q);
+    let searching = Searching {
+        opened: *opened,
+        plan: &plan,
+        q,
+        slots,
+    };
+    searching.all_chains(out)
 }

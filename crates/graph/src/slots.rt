@@ -1,19 +1,18 @@
 // What the records of chains say, and the slots of a lent buffer, which are filled from the front. The count
 // stops at one past the slots there are.
-ghost use Rattle.std.specs.Prelude.{◌≡◌, [], ◌∷◌, ◌+◌, ◌*◌, ◌≤◌, length, take, drop};
+ghost use Rattle.std.specs.Prelude.{◌≡◌, [], ◌∷◌, ◌+◌, ◌*◌, ◌≤◌, length};
 ghost use Rattle.spec.specs.Limits.{solution_size};
 ghost use Rattle.spec.specs.Order.{solution_edge};
 ghost use Rattle.spec.specs.Records.{no_edge};
-ghost use Rattle.output.specs.Write.{written};
 ghost use Rattle.records.specs.Octets.{record_octets};
-ghost use Rattle.graph.specs.Pushed.{push_record, Room, Pushes};
+ghost use Rattle.graph.specs.Pushed.{put_at, push_record, Room, Pushes};
 
 use spec::{Edge, Solution, SolutionEdge};
 
 pub(crate) fn weight(e: Edge) -> u16
     ensures { (result ≡ e.weight) × (result ≤ 255) }
 {
-    e.weight as u16
+    u16::from(e.weight)
 }
 
 fn edge(e: Edge) -> SolutionEdge
@@ -40,17 +39,13 @@ pub(crate) fn no_edge() -> SolutionEdge
 
 // ---- the slots
 
-// Writes a record at index `at`, byte by byte over a length that is fixed: the compiler makes one store of it.
-fn put_record(r: &[u8], out: &mut [u8], at: usize)
-    requires r_len { length r.now ≡ solution_size }
-    requires solution_size_in_bounds { at + solution_size ≤ length out.old }
-    ensures { out.new ≡ written out.old at (take solution_size (drop 0 r.now)) }
+// Writes a record at slot n: an array by value in a function of its own, which the compiler makes one store of.
+fn put_record(out: &mut [u8], n: usize, r: [u8; Solution::SIZE])
+    requires { solution_size * n + solution_size ≤ length out.old }
+    ensures { out.new ≡ put_at out.old n r }
 {
-    let mut j: usize = 0;
-    while j < Solution::SIZE {
-        out[at + j] = r[j];
-        j += 1;
-    }
+    let at = Solution::SIZE * n;
+    out[at..at + Solution::SIZE].copy_from_slice(&r);
 }
 
 // Writes a record at slot n, if there is one; the count after it.
@@ -59,8 +54,7 @@ fn push(out: &mut [u8], slots: usize, n: usize, s: Solution) -> usize
     ensures { (result, out.new) ≡ push_record slots (n, out.old) (record_octets s) }
 {
     if n < slots {
-        let r = records::solution_octets(s);
-        put_record(&r, out, Solution::SIZE * n);
+        put_record(out, n, records::solution_octets(s));
         return n + 1;
     }
     slots + 1

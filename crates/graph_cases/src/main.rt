@@ -5,7 +5,7 @@
 ghost use Rattle.std.specs.Prelude.{◌≤◌};
 ghost use Rattle.spec.specs.Limits.{max_slots};
 
-use spec::{AsEntry, Head, HopField, IsdAsn, Limits, ListAnswer, PeerEntry, Sizes, Solution};
+use spec::{AsEntry, Head, HopField, IsdAsn, Limits, PeerEntry, Sizes, Solution};
 use std::io;
 
 // Four ASes.
@@ -39,18 +39,15 @@ fn show(
 ) -> io::Result<()> {
     rt.write_all(label)?;
     rt.write_all(b": ")?;
-    let answer = graph::list(IsdAsn(src), IsdAsn(dst), book, out);
-    match answer {
-        ListAnswer::Count(n) => {
+    match graph::list(IsdAsn(src), IsdAsn(dst), book, out) {
+        Ok(n) => {
             print!(rt; "{n}")?;
-            if 0 < n {
-                if n <= Limits::SLOTS {
-                    record(rt, out, 0)?;
-                    record(rt, out, n - 1)?;
-                }
+            if 0 < n && n <= Limits::SLOTS {
+                record(rt, out, 0)?;
+                record(rt, out, n - 1)?;
             }
         }
-        ListAnswer::Refused(r) => {
+        Err(r) => {
             print!(rt; "refused {}", r.number())?;
         }
     }
@@ -65,9 +62,9 @@ const SEGMENT: usize = Head::SIZE + BODY;
 
 fn put_sizes(book: &mut [u8], cores: u16, others: u16) {
     let sizes = Sizes {
-        cores: cores,
-        others: others,
-        bodies: (cores as u32 + others as u32) * BODY as u32,
+        cores,
+        others,
+        bodies: (u32::from(cores) + u32::from(others)) * BODY as u32,
     };
     builder::put_sizes(book, 0, sizes);
 }
@@ -75,8 +72,8 @@ fn put_sizes(book: &mut [u8], cores: u16, others: u16) {
 fn entry(local: u64, ingress: u16, egress: u16, peers: u8) -> AsEntry {
     let hop = HopField {
         units: 0,
-        ingress: ingress,
-        egress: egress,
+        ingress,
+        egress,
         mac: [0u8; HopField::MAC],
     };
     AsEntry::new(IsdAsn(local), 0, 0, hop, peers)
@@ -86,13 +83,13 @@ fn entry(local: u64, ingress: u16, egress: u16, peers: u8) -> AsEntry {
 fn segment(book: &mut [u8], count: u8, k: u8, first: u64, last: u64) {
     let head = Head {
         timestamp: 1,
-        id: k as u16,
+        id: u16::from(k),
         entries: 2,
         body: BODY as u16,
     };
-    builder::put_head(book, Sizes::SIZE + Head::SIZE * k as usize, head);
-    let bodies = Sizes::SIZE + Head::SIZE * count as usize;
-    let at = bodies + BODY * k as usize;
+    builder::put_head(book, Sizes::SIZE + Head::SIZE * usize::from(k), head);
+    let bodies = Sizes::SIZE + Head::SIZE * usize::from(count);
+    let at = bodies + BODY * usize::from(k);
     let next = builder::put_entry(book, at, entry(first, 0, 1, 0));
     builder::put_entry(book, next, entry(last, 2, 0, 0));
 }

@@ -7,8 +7,8 @@ use mathlib.Core.List.{List, ◌++◌, flat_map}
 use lib.ListN.{length, take, drop, length-append}
 use lib.Seq.{take_at}
 use Rattle.sha256.specs.Message.{sha256}
-use Rattle.spec.specs.declared.ListAnswer.{ListAnswer}
-use Rattle.spec.specs.declared.ListAnswer.TheVariants.{Count, Refused}
+use Rattle.std.specs.Prelude.{Ok, Err}
+use Rattle.spec.specs.Answers.{ListAnswer}
 use Rattle.spec.specs.Limits.{max_slots, solution_size}
 use Rattle.spec.specs.Basics.{range}
 use Rattle.spec.specs.Printed.{printed}
@@ -38,8 +38,8 @@ module _ (input : List ℕ) where
   count-few = go (listed input (max_slots * solution_size)).0 refl
     where
       go : (a : ListAnswer) → (listed input (max_slots * solution_size)).0 ≡ a → count_of a ≤ max_slots
-      go (Count n) q = let w = counted-room input (max_slots * solution_size) n q in omega (arith, w.1)
-      go (Refused r) q = zero-le
+      go (Ok n) q = let w = counted-room input (max_slots * solution_size) n q in omega (arith, w.1)
+      go (Err r) q = zero-le
 
   pub whole_long : (records : List ℕ) → records ≡ (listed input (max_slots * solution_size)).1 → (n : ℕ) → n ≡ count_of (listed input (max_slots * solution_size)).0
       → length (first_line input (max_slots * solution_size)) + length (flat_map (slot_text input records) (range 0 n)) ≡ length (printed sha256 input)

@@ -73,10 +73,8 @@ fn print_slots(rt: &impl Print, input: &[u8], records: &[u8], count: usize) -> u
     ensures { (result ≡ length (flat_map (slot_text input.now records.now) (range 0 count))) × (result ≤ max_slots * solution_text_size) }
 {
     let mut written: usize = 0;
-    let mut k: usize = 0;
-    while k < count {
+    for k in 0..count {
         written += print_slot(rt, input, records, k);
-        k += 1;
     }
     written
 }

@@ -4,56 +4,26 @@
 
 use std::io;
 
-const MAX: usize = 18446744073709551615;
-
 const SOURCE: [u8; 9] = [0x81, 0x92, 0xa3, 0xb4, 0xc5, 0xd6, 0xe7, 0xf8, 0x09];
 
-fn wide(x: u8) -> u64 {
-    x as u64
-}
-
-fn number(rt: &impl Print, x: u64, digits: usize, end: &[u8]) -> io::Result<()> {
-    print!(rt; "{x:0digits$x}")?;
-    rt.write_all(end)
-}
-
 fn show(rt: &impl Print, b: [u8; 9]) -> io::Result<()> {
-    number(rt, wide(b[0]), 2, b"")?;
-    number(rt, wide(b[1]), 2, b"")?;
-    number(rt, wide(b[2]), 2, b"")?;
-    number(rt, wide(b[3]), 2, b"")?;
-    number(rt, wide(b[4]), 2, b"")?;
-    number(rt, wide(b[5]), 2, b"")?;
-    number(rt, wide(b[6]), 2, b"")?;
-    number(rt, wide(b[7]), 2, b"")?;
-    number(rt, wide(b[8]), 2, b"\n")
-}
-
-fn numbers(rt: &impl Print, a: u8, b: u16, c: u32, end: &[u8]) -> io::Result<()> {
-    number(rt, a as u64, 2, b" ")?;
-    number(rt, b as u64, 4, b" ")?;
-    number(rt, c as u64, 8, end)
+    for x in b {
+        print!(rt; "{x:02x}")?;
+    }
+    println!(rt)
 }
 
 fn read(rt: &impl Print, s: &[u8], at: usize) -> io::Result<()> {
-    numbers(
-        rt,
-        octets::byte(s, at),
-        octets::be16(s, at),
-        octets::be32(s, at),
-        b" ",
-    )?;
-    number(rt, octets::be64(s, at), 16, b"\n")
+    let (a, b) = (octets::byte(s, at), octets::be16(s, at));
+    let (c, d) = (octets::be32(s, at), octets::be64(s, at));
+    println!(rt; "{a:02x} {b:04x} {c:08x} {d:016x}")
 }
 
 fn read_past(rt: &impl Print, s: &[u8], at: usize, i: u8) -> io::Result<()> {
-    numbers(
-        rt,
-        octets::byte_past(s, at, i),
-        octets::be16_past(s, at, i),
-        octets::be32_past(s, at, i),
-        b"\n",
-    )
+    let a = octets::byte_past(s, at, i);
+    let b = octets::be16_past(s, at, i);
+    let c = octets::be32_past(s, at, i);
+    println!(rt; "{a:02x} {b:04x} {c:08x}")
 }
 
 fn write(rt: &impl Print, at: usize) -> io::Result<()> {
@@ -84,86 +54,81 @@ fn copy(rt: &impl Print, from: usize, n: usize, at: usize) -> io::Result<()> {
 }
 
 fn reads(rt: &impl Print) -> io::Result<()> {
-    read(rt, &SOURCE, 0)?;
-    read(rt, &SOURCE, 1)?;
-    read(rt, &SOURCE, 2)?;
-    read(rt, &SOURCE, 5)?;
-    read(rt, &SOURCE, 6)?;
-    read(rt, &SOURCE, 7)?;
-    read(rt, &SOURCE, 8)?;
-    read(rt, &SOURCE, 9)?;
-    read(rt, &SOURCE, 10)?;
-    read(rt, &SOURCE, 1000)?;
-    read(rt, &SOURCE, MAX - 1)?;
-    read(rt, &SOURCE, MAX)?;
-    read(rt, &SOURCE[..0], 0)?;
-    read(rt, &SOURCE[..0], 8)?;
-    read(rt, &SOURCE[..0], MAX)
+    for at in [0, 1, 2, 5, 6, 7, 8, 9, 10, 1000] {
+        read(rt, &SOURCE, at)?;
+    }
+    for at in [usize::MAX - 1, usize::MAX] {
+        read(rt, &SOURCE, at)?;
+    }
+    for at in [0, 8, usize::MAX] {
+        read(rt, &[], at)?;
+    }
+    Ok(())
 }
 
 fn reads_past(rt: &impl Print) -> io::Result<()> {
-    read_past(rt, &SOURCE, 0, 0)?;
-    read_past(rt, &SOURCE, 0, 1)?;
-    read_past(rt, &SOURCE, 1, 0)?;
-    read_past(rt, &SOURCE, 1, 1)?;
-    read_past(rt, &SOURCE, 0, 6)?;
-    read_past(rt, &SOURCE, 2, 5)?;
-    read_past(rt, &SOURCE, 4, 4)?;
-    read_past(rt, &SOURCE, 9, 0)?;
-    read_past(rt, &SOURCE, 1, 255)?;
-    read_past(rt, &SOURCE, 1000, 255)?;
-    read_past(rt, &SOURCE, MAX, 0)?;
-    read_past(rt, &SOURCE, MAX, 1)?;
-    read_past(rt, &SOURCE, MAX, 2)?;
-    read_past(rt, &SOURCE, MAX - 1, 2)?;
-    read_past(rt, &SOURCE, MAX, 255)
+    for (at, i) in [
+        (0, 0),
+        (0, 1),
+        (1, 0),
+        (1, 1),
+        (0, 6),
+        (2, 5),
+        (4, 4),
+        (9, 0),
+        (1, 255),
+        (1000, 255),
+    ] {
+        read_past(rt, &SOURCE, at, i)?;
+    }
+    for i in [0, 1, 2] {
+        read_past(rt, &SOURCE, usize::MAX, i)?;
+    }
+    read_past(rt, &SOURCE, usize::MAX - 1, 2)?;
+    read_past(rt, &SOURCE, usize::MAX, 255)
 }
 
 fn writes(rt: &impl Print) -> io::Result<()> {
-    write(rt, 0)?;
-    write(rt, 1)?;
-    write(rt, 2)?;
-    write(rt, 5)?;
-    write(rt, 6)?;
-    write(rt, 7)?;
-    write(rt, 8)?;
-    write(rt, 9)?;
-    write(rt, 10)?;
-    write(rt, 1000)?;
-    write(rt, MAX - 7)?;
-    write(rt, MAX - 1)?;
-    write(rt, MAX)
+    for at in [0, 1, 2, 5, 6, 7, 8, 9, 10, 1000] {
+        write(rt, at)?;
+    }
+    for at in [usize::MAX - 7, usize::MAX - 1, usize::MAX] {
+        write(rt, at)?;
+    }
+    Ok(())
 }
 
 fn zeros(rt: &impl Print) -> io::Result<()> {
-    zero(rt, 0)?;
-    zero(rt, 1)?;
-    zero(rt, 8)?;
-    zero(rt, 9)?;
-    zero(rt, 10)?;
-    zero(rt, MAX)
+    for from in [0, 1, 8, 9, 10, usize::MAX] {
+        zero(rt, from)?;
+    }
+    Ok(())
 }
 
 fn copies(rt: &impl Print) -> io::Result<()> {
-    copy(rt, 0, 9, 0)?;
-    copy(rt, 0, 0, 0)?;
-    copy(rt, 0, 1, 8)?;
-    copy(rt, 2, 3, 4)?;
-    copy(rt, 3, 1, 0)?;
-    copy(rt, 7, 5, 0)?;
-    copy(rt, 8, 1, 8)?;
-    copy(rt, 8, 2, 8)?;
-    copy(rt, 9, 1, 0)?;
-    copy(rt, 10, 1, 0)?;
-    copy(rt, 0, 5, 7)?;
-    copy(rt, 0, 5, 9)?;
-    copy(rt, 0, 1, 10)?;
-    copy(rt, 0, MAX, 0)?;
-    copy(rt, 3, MAX, 5)?;
-    copy(rt, 5, MAX, 3)?;
-    copy(rt, MAX, MAX, 0)?;
-    copy(rt, MAX, 1, MAX)?;
-    copy(rt, 0, 1, MAX)
+    for (from, n, at) in [
+        (0, 9, 0),
+        (0, 0, 0),
+        (0, 1, 8),
+        (2, 3, 4),
+        (3, 1, 0),
+        (7, 5, 0),
+        (8, 1, 8),
+        (8, 2, 8),
+        (9, 1, 0),
+        (10, 1, 0),
+        (0, 5, 7),
+        (0, 5, 9),
+        (0, 1, 10),
+    ] {
+        copy(rt, from, n, at)?;
+    }
+    copy(rt, 0, usize::MAX, 0)?;
+    copy(rt, 3, usize::MAX, 5)?;
+    copy(rt, 5, usize::MAX, 3)?;
+    copy(rt, usize::MAX, usize::MAX, 0)?;
+    copy(rt, usize::MAX, 1, usize::MAX)?;
+    copy(rt, 0, 1, usize::MAX)
 }
 
 fn main(rt: HostRuntime) -> io::Result<()> {

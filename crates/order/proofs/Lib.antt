@@ -5,6 +5,7 @@ pub mod Slots
 pub mod Merging
 pub mod Ordered
 pub mod Comparing
+pub mod Answering
 pub mod Words
 pub mod RecordOrder
 pub mod Caching

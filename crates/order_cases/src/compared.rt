@@ -2,8 +2,9 @@
 // sixty records: how often each answer comes, and a digest of them all. `expected.py` has the answers of the lines, worked out by hand,
 // beside the same records. By their fingerprints the positions of the book stand so: 1 and 4, which are equal, 3, 2, 5, 0.
 use crate::{BOOK, Kind, book, fill, show_digest, up};
-use order::{Comparison, Order};
+use order::Comparison;
 use spec::{AsEntry, Solution, SolutionEdge};
+use std::cmp::Ordering;
 use std::io;
 
 // ---- records
@@ -39,33 +40,30 @@ fn at(positions: [u8; 3]) -> [u8; Solution::SIZE] {
 
 // ---- lines
 
-fn say_order(rt: &impl Print, o: Order) -> io::Result<()> {
+fn word(o: Ordering) -> &'static str {
     match o {
-        Order::Before => rt.write_all(b"before "),
-        Order::Same => rt.write_all(b"same "),
-        Order::After => rt.write_all(b"after "),
+        Ordering::Less => "before",
+        Ordering::Equal => "same",
+        Ordering::Greater => "after",
     }
 }
 
-fn say(rt: &impl Print, c: Comparison) -> io::Result<()> {
-    let o = c.order;
-    say_order(rt, o)?;
-    print!(rt; "{}", c.digests)
-}
-
 // Book and records of any bytes.
-fn any(rt: &impl Print, name: &[u8], given: &[u8], a: &[u8], b: &[u8]) -> io::Result<()> {
-    rt.write_all(name)?;
-    rt.write_all(b": ")?;
-    say(rt, order::compare_solutions(given, a, b))?;
-    rt.write_all(b", exchanged ")?;
-    say(rt, order::compare_solutions(given, b, a))?;
-    rt.write_all(b"\n")
+fn any(rt: &impl Print, name: &str, given: &[u8], a: &[u8], b: &[u8]) -> io::Result<()> {
+    let c = order::compare_solutions(given, a, b);
+    let d = order::compare_solutions(given, b, a);
+    println!(rt;
+        "{name}: {} {}, exchanged {} {}",
+        word(c.order),
+        c.digests,
+        word(d.order),
+        d.digests
+    )
 }
 
 fn case(
     rt: &impl Print,
-    name: &[u8],
+    name: &str,
     a: [u8; Solution::SIZE],
     b: [u8; Solution::SIZE],
 ) -> io::Result<()> {
@@ -78,19 +76,19 @@ fn case(
 fn heads(rt: &impl Print) -> io::Result<()> {
     case(
         rt,
-        b"cost",
+        "cost",
         counted(6, 3, [2, 2, 2]),
         counted(7, 3, [3, 3, 3]),
     )?;
     case(
         rt,
-        b"cost, its first byte",
+        "cost, its first byte",
         counted(255, 3, [2, 2, 2]),
         counted(256, 3, [3, 3, 3]),
     )?;
     case(
         rt,
-        b"edge count",
+        "edge count",
         counted(7, 2, [2, 2, 2]),
         counted(7, 3, [3, 3, 3]),
     )
@@ -100,19 +98,19 @@ fn heads(rt: &impl Print) -> io::Result<()> {
 fn first_edge(rt: &impl Print) -> io::Result<()> {
     case(
         rt,
-        b"first edge, peer",
+        "first edge, peer",
         keyed([2, 2, 2], [0, 0, 0], [0, 0, 0]),
         keyed([3, 3, 3], [5, 0, 0], [1, 0, 0]),
     )?;
     case(
         rt,
-        b"first edge, shortcut",
+        "first edge, shortcut",
         keyed([2, 2, 2], [5, 0, 0], [1, 0, 0]),
         keyed([3, 3, 3], [4, 0, 0], [1, 0, 0]),
     )?;
     case(
         rt,
-        b"first edge, two positions",
+        "first edge, two positions",
         keyed([3, 2, 2], [4, 0, 0], [1, 0, 0]),
         keyed([2, 3, 3], [4, 0, 0], [1, 0, 0]),
     )
@@ -121,19 +119,19 @@ fn first_edge(rt: &impl Print) -> io::Result<()> {
 fn second_edge(rt: &impl Print) -> io::Result<()> {
     case(
         rt,
-        b"second edge, peer",
+        "second edge, peer",
         keyed([5, 2, 2], [0, 0, 0], [0, 0, 0]),
         keyed([5, 3, 3], [0, 5, 0], [0, 1, 0]),
     )?;
     case(
         rt,
-        b"second edge, shortcut",
+        "second edge, shortcut",
         keyed([5, 2, 2], [0, 5, 0], [0, 1, 0]),
         keyed([5, 3, 3], [0, 4, 0], [0, 1, 0]),
     )?;
     case(
         rt,
-        b"second edge, two positions",
+        "second edge, two positions",
         keyed([5, 3, 2], [0, 4, 0], [0, 1, 0]),
         keyed([5, 2, 3], [0, 4, 0], [0, 1, 0]),
     )
@@ -142,25 +140,25 @@ fn second_edge(rt: &impl Print) -> io::Result<()> {
 fn third_edge(rt: &impl Print) -> io::Result<()> {
     case(
         rt,
-        b"third edge, peer",
+        "third edge, peer",
         keyed([5, 0, 2], [0, 0, 0], [0, 0, 0]),
         keyed([5, 0, 3], [0, 0, 5], [0, 0, 1]),
     )?;
     case(
         rt,
-        b"third edge, shortcut",
+        "third edge, shortcut",
         keyed([5, 0, 2], [0, 0, 5], [0, 0, 1]),
         keyed([5, 0, 3], [0, 0, 4], [0, 0, 1]),
     )?;
     case(
         rt,
-        b"third edge, two positions",
+        "third edge, two positions",
         keyed([5, 0, 3], [0, 0, 4], [0, 0, 1]),
         keyed([5, 0, 2], [0, 0, 4], [0, 0, 1]),
     )?;
     case(
         rt,
-        b"one position at every edge",
+        "one position at every edge",
         at([5, 3, 2]),
         at([5, 3, 2]),
     )
@@ -179,26 +177,26 @@ fn no_keys(rt: &impl Print) -> io::Result<()> {
     b[Solution::HEAD + SolutionEdge::DIRECTION] = 1;
     b[SECOND + SolutionEdge::DIRECTION] = 1;
     b[THIRD + SolutionEdge::DIRECTION] = 1;
-    case(rt, b"directions and the zero byte", a, b)
+    case(rt, "directions and the zero byte", a, b)
 }
 
 // Positions 4 and 1 have one fingerprint: what follows decides, and the positions would decide otherwise.
 fn after_one(rt: &impl Print) -> io::Result<()> {
     case(
         rt,
-        b"a reissue, then the second edge's peer",
+        "a reissue, then the second edge's peer",
         keyed([4, 2, 2], [0, 0, 0], [0, 0, 0]),
         keyed([1, 3, 3], [0, 5, 0], [0, 1, 0]),
     )?;
     case(
         rt,
-        b"a reissue, then the second edge's shortcut",
+        "a reissue, then the second edge's shortcut",
         keyed([4, 2, 2], [0, 5, 0], [0, 1, 0]),
         keyed([1, 3, 3], [0, 4, 0], [0, 1, 0]),
     )?;
     case(
         rt,
-        b"a reissue, then the second edge at two positions",
+        "a reissue, then the second edge at two positions",
         keyed([4, 3, 2], [0, 4, 0], [0, 1, 0]),
         keyed([1, 2, 3], [0, 4, 0], [0, 1, 0]),
     )
@@ -207,19 +205,19 @@ fn after_one(rt: &impl Print) -> io::Result<()> {
 fn after_one_and_another(rt: &impl Print) -> io::Result<()> {
     case(
         rt,
-        b"a reissue, one position, then the third edge's peer",
+        "a reissue, one position, then the third edge's peer",
         keyed([4, 5, 2], [0, 0, 0], [0, 0, 0]),
         keyed([1, 5, 3], [0, 0, 5], [0, 0, 1]),
     )?;
     case(
         rt,
-        b"a reissue, one position, then the third edge's shortcut",
+        "a reissue, one position, then the third edge's shortcut",
         keyed([4, 5, 2], [0, 0, 5], [0, 0, 1]),
         keyed([1, 5, 3], [0, 0, 4], [0, 0, 1]),
     )?;
     case(
         rt,
-        b"a reissue, one position, then the third edge at two positions",
+        "a reissue, one position, then the third edge at two positions",
         at([4, 5, 3]),
         at([1, 5, 2]),
     )
@@ -228,13 +226,13 @@ fn after_one_and_another(rt: &impl Print) -> io::Result<()> {
 fn after_the_second(rt: &impl Print) -> io::Result<()> {
     case(
         rt,
-        b"one position, a reissue, then the third edge's peer",
+        "one position, a reissue, then the third edge's peer",
         keyed([5, 4, 2], [0, 0, 0], [0, 0, 0]),
         keyed([5, 1, 3], [0, 0, 5], [0, 0, 1]),
     )?;
     case(
         rt,
-        b"one position, a reissue, then the third edge at two positions",
+        "one position, a reissue, then the third edge at two positions",
         at([5, 4, 3]),
         at([5, 1, 2]),
     )
@@ -243,19 +241,19 @@ fn after_the_second(rt: &impl Print) -> io::Result<()> {
 fn after_two(rt: &impl Print) -> io::Result<()> {
     case(
         rt,
-        b"two reissues, then the third edge's peer",
+        "two reissues, then the third edge's peer",
         keyed([4, 4, 2], [0, 0, 0], [0, 0, 0]),
         keyed([1, 1, 3], [0, 0, 5], [0, 0, 1]),
     )?;
     case(
         rt,
-        b"two reissues, then the third edge's shortcut",
+        "two reissues, then the third edge's shortcut",
         keyed([4, 4, 2], [0, 0, 5], [0, 0, 1]),
         keyed([1, 1, 3], [0, 0, 4], [0, 0, 1]),
     )?;
     case(
         rt,
-        b"two reissues, then the third edge at two positions",
+        "two reissues, then the third edge at two positions",
         at([4, 4, 3]),
         at([1, 1, 2]),
     )
@@ -263,54 +261,49 @@ fn after_two(rt: &impl Print) -> io::Result<()> {
 
 // All fingerprints are equal.
 fn by_positions(rt: &impl Print) -> io::Result<()> {
-    case(rt, b"a reissue first", at([1, 5, 3]), at([4, 5, 3]))?;
-    case(rt, b"a reissue second", at([5, 1, 3]), at([5, 4, 3]))?;
-    case(rt, b"a reissue third", at([5, 3, 1]), at([5, 3, 4]))?;
+    case(rt, "a reissue first", at([1, 5, 3]), at([4, 5, 3]))?;
+    case(rt, "a reissue second", at([5, 1, 3]), at([5, 4, 3]))?;
+    case(rt, "a reissue third", at([5, 3, 1]), at([5, 3, 4]))?;
     case(
         rt,
-        b"reissues first and second, crossed",
+        "reissues first and second, crossed",
         at([1, 4, 3]),
         at([4, 1, 3]),
     )?;
+    case(rt, "reissues first and third", at([1, 5, 4]), at([4, 5, 1]))?;
     case(
         rt,
-        b"reissues first and third",
-        at([1, 5, 4]),
-        at([4, 5, 1]),
-    )?;
-    case(
-        rt,
-        b"reissues second and third",
+        "reissues second and third",
         at([5, 1, 4]),
         at([5, 4, 1]),
     )?;
-    case(rt, b"three reissues", at([1, 1, 1]), at([4, 4, 4]))?;
-    case(rt, b"three reissues, crossed", at([1, 4, 4]), at([4, 1, 1]))
+    case(rt, "three reissues", at([1, 1, 1]), at([4, 4, 4]))?;
+    case(rt, "three reissues, crossed", at([1, 4, 4]), at([4, 1, 1]))
 }
 
 // Edges are compared whatever the count says.
 fn past_the_count(rt: &impl Print) -> io::Result<()> {
     case(
         rt,
-        b"no edge counted, the first at two positions",
+        "no edge counted, the first at two positions",
         counted(7, 0, [3, 5, 5]),
         counted(7, 0, [2, 5, 5]),
     )?;
     case(
         rt,
-        b"one edge counted, the second at two positions",
+        "one edge counted, the second at two positions",
         counted(7, 1, [5, 3, 5]),
         counted(7, 1, [5, 2, 5]),
     )?;
     case(
         rt,
-        b"two edges counted, the third at two positions",
+        "two edges counted, the third at two positions",
         counted(7, 2, [5, 5, 3]),
         counted(7, 2, [5, 5, 2]),
     )?;
     case(
         rt,
-        b"255 edges counted, three reissues",
+        "255 edges counted, three reissues",
         counted(7, 255, [1, 1, 1]),
         counted(7, 255, [4, 4, 4]),
     )
@@ -318,16 +311,16 @@ fn past_the_count(rt: &impl Print) -> io::Result<()> {
 
 // At 200 and 250 the book has no segment: both have the fingerprint of nothing.
 fn past_the_book(rt: &impl Print) -> io::Result<()> {
-    case(rt, b"a segment and none", at([1, 5, 5]), at([200, 5, 5]))?;
+    case(rt, "a segment and none", at([1, 5, 5]), at([200, 5, 5]))?;
     case(
         rt,
-        b"none and none, then the second edge at two positions",
+        "none and none, then the second edge at two positions",
         at([250, 3, 5]),
         at([200, 2, 5]),
     )?;
     case(
         rt,
-        b"none and none at every edge",
+        "none and none at every edge",
         at([200, 200, 200]),
         at([250, 250, 250]),
     )
@@ -352,16 +345,13 @@ fn by_hand(rt: &impl Print) -> io::Result<()> {
 
 // The first n bytes, or all.
 fn first(s: &[u8], n: usize) -> &[u8] {
-    if n <= s.len() {
-        return &s[0..n];
-    }
-    s
+    &s[0..n.min(s.len())]
 }
 
 // Of the book and of each record the first so many bytes.
 fn cut(
     rt: &impl Print,
-    name: &[u8],
+    name: &str,
     size: usize,
     a: [u8; Solution::SIZE],
     a_size: usize,
@@ -385,7 +375,7 @@ const IN_EGRESS: usize = BOOK - AsEntry::SIZE + AsEntry::EGRESS + 1;
 fn short_books(rt: &impl Print) -> io::Result<()> {
     cut(
         rt,
-        b"no book, three edges at two positions",
+        "no book, three edges at two positions",
         0,
         at([0, 1, 2]),
         Solution::SIZE,
@@ -394,7 +384,7 @@ fn short_books(rt: &impl Print) -> io::Result<()> {
     )?;
     cut(
         rt,
-        b"no bodies, the first edge at two positions",
+        "no bodies, the first edge at two positions",
         HEADS,
         at([3, 5, 5]),
         Solution::SIZE,
@@ -403,7 +393,7 @@ fn short_books(rt: &impl Print) -> io::Result<()> {
     )?;
     cut(
         rt,
-        b"the last egress cut, the first edge at two positions",
+        "the last egress cut, the first edge at two positions",
         IN_EGRESS,
         at([5, 3, 3]),
         Solution::SIZE,
@@ -416,45 +406,21 @@ fn short_records(rt: &impl Print) -> io::Result<()> {
     let x = at([3, 3, 3]);
     let y = at([2, 2, 2]);
     let zeros = counted(0, 0, [0, 0, 0]);
-    cut(rt, b"no record and none", BOOK, x, 0, y, 0)?;
+    cut(rt, "no record and none", BOOK, x, 0, y, 0)?;
+    cut(rt, "no record and zeros", BOOK, x, 0, zeros, Solution::SIZE)?;
+    cut(rt, "no record and one", BOOK, y, 0, x, Solution::SIZE)?;
+    cut(rt, "no edges", BOOK, x, Solution::HEAD, y, Solution::HEAD)?;
     cut(
         rt,
-        b"no record and zeros",
-        BOOK,
-        x,
-        0,
-        zeros,
-        Solution::SIZE,
-    )?;
-    cut(rt, b"no record and one", BOOK, y, 0, x, Solution::SIZE)?;
-    cut(rt, b"no edges", BOOK, x, Solution::HEAD, y, Solution::HEAD)?;
-    cut(
-        rt,
-        b"no edges but the first position",
+        "no edges but the first position",
         BOOK,
         x,
         Solution::HEAD + 1,
         y,
         Solution::HEAD + 1,
     )?;
-    cut(
-        rt,
-        b"one edge and three",
-        BOOK,
-        x,
-        SECOND,
-        x,
-        Solution::SIZE,
-    )?;
-    cut(
-        rt,
-        b"two edges and three",
-        BOOK,
-        x,
-        THIRD,
-        x,
-        Solution::SIZE,
-    )
+    cut(rt, "one edge and three", BOOK, x, SECOND, x, Solution::SIZE)?;
+    cut(rt, "two edges and three", BOOK, x, THIRD, x, Solution::SIZE)
 }
 
 fn long_records(rt: &impl Print) -> io::Result<()> {
@@ -463,7 +429,7 @@ fn long_records(rt: &impl Print) -> io::Result<()> {
     let mut y = [0u8; Solution::SIZE + 4];
     x[Solution::SIZE] = 1;
     y[Solution::SIZE] = 2;
-    any(rt, b"bytes after the record", &b, &x, &y)
+    any(rt, "bytes after the record", &b, &x, &y)
 }
 
 // ---- every pair of sixty
@@ -481,65 +447,59 @@ fn record_at(s: &[u8], k: usize) -> &[u8] {
     s
 }
 
-fn number(o: Order) -> u8 {
-    match o {
-        Order::Before => 0,
-        Order::Same => 1,
-        Order::After => 2,
-    }
-}
-
-// Of each pair the order as a number, and the count.
-fn put_answers(given: &[u8], s: &[u8], r: &mut [u8]) {
-    let mut k = 0;
-    while k < r.len() / 2 {
-        let c = order::compare_solutions(
+fn put_answers(given: &[u8], s: &[u8], answers: &mut [Comparison; PAIRS]) {
+    for k in 0..PAIRS {
+        answers[k] = order::compare_solutions(
             given,
             record_at(s, k / RECORDS),
             record_at(s, k % RECORDS),
         );
-        let o = c.order;
-        r[2 * k] = number(o);
-        r[2 * k + 1] = c.digests;
-        k += 1;
     }
 }
 
-// At how many pairs the number stands, as order (0) or as count (1).
-fn tally(r: &[u8], which: u8, n: u8) -> u64 {
-    let mut found: u64 = 0;
-    let mut k: usize = 0;
-    while k < PAIRS {
-        if octets::byte_past(r, 2 * k, which) == n {
-            found += 1;
-        }
-        k += 1;
+// At how many pairs one record stands so to the other.
+fn say_order(rt: &impl Print, answers: &[Comparison], o: Ordering) -> io::Result<()> {
+    let n = answers.iter().filter(|c| c.order == o).count();
+    println!(rt; "{}: {n}", word(o))
+}
+
+// At how many so many fingerprints were worked out.
+fn say_digests(rt: &impl Print, answers: &[Comparison], name: &str, digests: u8) -> io::Result<()> {
+    let n = answers.iter().filter(|c| c.digests == digests).count();
+    println!(rt; "{name}: {n}")
+}
+
+// Of each pair the order as a number, and the count.
+fn show_answers(rt: &impl Print, answers: &[Comparison; PAIRS]) -> io::Result<()> {
+    let mut r = [0u8; 2 * PAIRS];
+    for k in 0..PAIRS {
+        r[2 * k] = match answers[k].order {
+            Ordering::Less => 0,
+            Ordering::Equal => 1,
+            Ordering::Greater => 2,
+        };
+        r[2 * k + 1] = answers[k].digests;
     }
-    found
-}
-
-fn say_tally(rt: &impl Print, name: &[u8], n: u64) -> io::Result<()> {
-    rt.write_all(name)?;
-    println!(rt; "{n}")
-}
-
-fn say_answers(rt: &impl Print, r: &[u8]) -> io::Result<()> {
-    say_tally(rt, b"before: ", tally(r, 0, 0))?;
-    say_tally(rt, b"same: ", tally(r, 0, 1))?;
-    say_tally(rt, b"after: ", tally(r, 0, 2))?;
-    say_tally(rt, b"no fingerprint: ", tally(r, 1, 0))?;
-    say_tally(rt, b"two fingerprints: ", tally(r, 1, 2))?;
-    say_tally(rt, b"four fingerprints: ", tally(r, 1, 4))?;
-    say_tally(rt, b"six fingerprints: ", tally(r, 1, 6))?;
-    show_digest(rt, r)
+    show_digest(rt, &r)
 }
 
 fn every_pair(rt: &impl Print) -> io::Result<()> {
     let mut s = [0u8; RECORDS * Solution::SIZE];
     fill(&mut s, Kind::Tied);
-    let mut r = [0u8; 2 * PAIRS];
-    put_answers(&book(), &s, &mut r);
-    say_answers(rt, &r)
+    let none = Comparison {
+        order: Ordering::Equal,
+        digests: 0,
+    };
+    let mut answers = [none; PAIRS];
+    put_answers(&book(), &s, &mut answers);
+    say_order(rt, &answers, Ordering::Less)?;
+    say_order(rt, &answers, Ordering::Equal)?;
+    say_order(rt, &answers, Ordering::Greater)?;
+    say_digests(rt, &answers, "no fingerprint", 0)?;
+    say_digests(rt, &answers, "two fingerprints", 2)?;
+    say_digests(rt, &answers, "four fingerprints", 4)?;
+    say_digests(rt, &answers, "six fingerprints", 6)?;
+    show_answers(rt, &answers)
 }
 
 pub(crate) fn show(rt: &impl Print) -> io::Result<()> {

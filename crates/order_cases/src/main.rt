@@ -16,7 +16,7 @@ const BOOK: usize = Sizes::SIZE + 6 * (Head::SIZE + AsEntry::SIZE);
 
 fn head(timestamp: u32) -> Head {
     Head {
-        timestamp: timestamp,
+        timestamp,
         id: 0x1234,
         entries: 1,
         body: AsEntry::SIZE as u16,
@@ -27,10 +27,16 @@ fn entry(n: u8) -> AsEntry {
     let hop = HopField {
         units: 63,
         ingress: 0,
-        egress: n as u16,
+        egress: u16::from(n),
         mac: [10, 0, 0, 0, 0, n],
     };
-    AsEntry::new(IsdAsn(0x0001_ff00_0000_0110 + n as u64), 1500, 0, hop, 0)
+    AsEntry::new(
+        IsdAsn(0x0001_ff00_0000_0110 + u64::from(n)),
+        1500,
+        0,
+        hop,
+        0,
+    )
 }
 
 // Six segments of one entry. The entries at positions 1 and 4 are the same, the timestamps are not: one
@@ -43,18 +49,12 @@ fn book() -> [u8; BOOK] {
         bodies: 6 * AsEntry::SIZE as u32,
     };
     let mut at = builder::put_sizes(&mut b, 0, sizes);
-    at = builder::put_head(&mut b, at, head(1000000));
-    at = builder::put_head(&mut b, at, head(1000001));
-    at = builder::put_head(&mut b, at, head(1000002));
-    at = builder::put_head(&mut b, at, head(1000003));
-    at = builder::put_head(&mut b, at, head(1000004));
-    at = builder::put_head(&mut b, at, head(1000005));
-    at = builder::put_entry(&mut b, at, entry(0));
-    at = builder::put_entry(&mut b, at, entry(1));
-    at = builder::put_entry(&mut b, at, entry(2));
-    at = builder::put_entry(&mut b, at, entry(3));
-    at = builder::put_entry(&mut b, at, entry(1));
-    builder::put_entry(&mut b, at, entry(5));
+    for k in 0..6 {
+        at = builder::put_head(&mut b, at, head(1000000 + k));
+    }
+    for n in [0, 1, 2, 3, 1, 5] {
+        at = builder::put_entry(&mut b, at, entry(n));
+    }
     b
 }
 
@@ -63,18 +63,18 @@ fn book() -> [u8; BOOK] {
 // An edge against construction direction, and one in it: position, shortcut, and peer.
 fn up(position: u8, shortcut: u8, peer: u8) -> SolutionEdge {
     SolutionEdge {
-        position: position,
-        shortcut: shortcut,
-        peer: peer,
+        position,
+        shortcut,
+        peer,
         construction: false,
     }
 }
 
 fn down(position: u8, shortcut: u8, peer: u8) -> SolutionEdge {
     SolutionEdge {
-        position: position,
-        shortcut: shortcut,
-        peer: peer,
+        position,
+        shortcut,
+        peer,
         construction: true,
     }
 }
@@ -91,15 +91,13 @@ fn two(s: &mut [u8], at: usize, cost: u16, e: SolutionEdge, f: SolutionEdge) -> 
 
 // A line for each record.
 fn show(rt: &impl Print, s: &[u8]) -> io::Result<()> {
-    let mut q = 0;
-    while q < s.len() / Solution::SIZE {
+    for q in 0..s.len() / Solution::SIZE {
         let at = Solution::SIZE * q;
         println!(rt;
             "{:016x}{:016x}",
             octets::be64(s, at),
             octets::be64(s, at + 8)
         )?;
-        q += 1;
     }
     rt.write_all(b"\n")
 }
@@ -205,27 +203,18 @@ fn plain(i: usize) -> u8 {
 
 // Mostly 0.
 fn rare(x: usize) -> u8 {
-    if x % 16 == 0 {
-        return 1;
-    }
-    0
+    u8::from(x % 16 == 0)
 }
 
 // Mostly one of the two positions with one fingerprint, else any of the book or one of two past it.
 fn position(x: usize) -> u8 {
-    if x % 8 < 3 {
-        return 1;
+    match x % 16 {
+        0..=2 | 8..=10 => 1,
+        3..=5 | 11..=13 => 4,
+        6 => 200,
+        14 => 250,
+        _ => (x / 8 % 6) as u8,
     }
-    if x % 8 < 6 {
-        return 4;
-    }
-    if x % 16 == 6 {
-        return 200;
-    }
-    if x % 16 == 14 {
-        return 250;
-    }
-    (x / 8 % 6) as u8
 }
 
 // Records that are equal in many keys. What no key reads, zero and the directions, is any byte.
@@ -261,18 +250,17 @@ fn byte_at(i: usize, kind: Kind) -> u8 {
 }
 
 fn fill(s: &mut [u8], kind: Kind) {
-    let mut i = 0;
-    while i < s.len() {
+    for i in 0..s.len() {
         s[i] = byte_at(i, kind);
-        i += 1;
     }
 }
 
 fn show_digest(rt: &impl Print, s: &[u8]) -> io::Result<()> {
     let d = sha256::sha256(s);
-    print!(rt; "{:016x}{:016x}", octets::be64(&d, 0), octets::be64(&d, 8))?;
     println!(rt;
-        "{:016x}{:016x}",
+        "{:016x}{:016x}{:016x}{:016x}",
+        octets::be64(&d, 0),
+        octets::be64(&d, 8),
         octets::be64(&d, 16),
         octets::be64(&d, 24)
     )

@@ -1,14 +1,13 @@
--- Laws of writes: for callers, and the turns of the loops.
+-- Laws of writes, for callers.
 -- Assumes nothing.
-use Prim.Native.Nat.{ℕ, zero, suc, ◌+◌, ◌-◌, ◌/◌, ◌%◌, ◌^◌, ◌≤◌, ◌<◌, min}
-use native.Mathlib.Nat.{add-zero, add-suc, zero-add, suc-add, le_antisymm}
-use native.Mathlib.Numerals.{add-one}
+use Prim.Native.Nat.{ℕ, zero, suc, ◌+◌, ◌-◌, ◌≤◌}
+use native.Mathlib.Nat.{add-zero, add-suc, zero-add, suc-add}
 use native.Mathlib.Decide.{dec_le}
 use native.Mathlib.Omega.{arith}
 use mathlib.Core.Path.{◌≡◌, refl, sym, ap, ◌∙◌}
 use mathlib.Core.List.{List, [], ◌∷◌, ◌++◌, append-nil}
-use lib.ListN.{length, take, drop, get_or, set, replicate, length-append, length-take, length-drop, length-replicate, take-append-drop, replicate-append-replicate, drop_of_length-le}
-use lib.Seq.{sets, length-sets, set_out, take_all, take-suc, take-take, take-length, length-take-le, take_at, drop-append-add, drop-length, get_or-drop}
+use lib.ListN.{length, take, drop, set, replicate, length-append, length-take, length-drop, length-replicate, take-append-drop, drop_of_length-le}
+use lib.Seq.{sets, length-sets, set_out, take_all, take-length, length-take-le, take_at, drop-append-add, drop-length}
 use Rattle.spec.specs.Octets.{octets2, octets4, octets8}
 use Rattle.output.specs.Write.{written, zeroed}
 
@@ -99,9 +98,6 @@ zeroed-written d from =
     rw (drop_of_length-le d {i = from + length {A = ℕ} (replicate (length d - from) 0)} (simp length-replicate (omega arith)), append-nil)
     (take_all (length d) (take from d ++ replicate (length d - from) 0) (simp (length-append, length-take, length-replicate) (omega arith)))
 
-pub zeroed-length : (d : List ℕ) (from : ℕ) → length (zeroed d from) ≡ length d
-zeroed-length d from = rw (← zeroed-written) (written-length d from _)
-
 pub zeroed_rest : (done rest : List ℕ) → zeroed (done ++ rest) (length done) ≡ done ++ replicate (length rest) 0
 unfolding zeroed
 zeroed_rest done rest =
@@ -111,97 +107,11 @@ zeroed_rest done rest =
 pub zeroed-all : (d : List ℕ) → zeroed d 0 ≡ replicate (length d) 0
 zeroed-all d = zeroed_rest [] d
 
--- ---- what the code leaves, in the terms of the contracts
+-- ---- what code leaves, in the terms of the contracts
 
 -- two writes, of which the first has n bytes
 pub written-pair : (d : List ℕ) (at n : ℕ) (xs ys : List ℕ) → length xs ≡ n → written (written d at xs) (at + n) ys ≡ written d at (xs ++ ys)
 written-pair d at n xs ys e = rw (← e) (written-join d at xs ys)
-
--- one more byte
-written-more : (d : List ℕ) (at n : ℕ) (xs : List ℕ) (x : ℕ) → length xs ≡ n → set (written d at xs) (at + n) x ≡ written d at (xs ++ (x ∷ []))
-written-more d at n xs x e = sym (written_one (written d at xs) (at + n) x) ∙ written-pair d at n xs (x ∷ []) e
-
-written-two : (d : List ℕ) (at x y : ℕ) → set (set d at x) (at + 1) y ≡ written d at (x ∷ y ∷ [])
-written-two d at x y = rw (← written_one d at x) (written-more d at 1 (x ∷ []) y refl)
-
-octets2-is : (x : ℕ) → x < 2 ^ 16 → x / 2 ^ 8 ∷ x % 2 ^ 8 ∷ [] ≡ octets2 x
-unfolding octets2
-octets2-is x h =
-    let e : x / 2 ^ 8 % 2 ^ 8 ≡ x / 2 ^ 8 = omega arith in
-    rw e
-
-pub octets2-stored : (d : List ℕ) (at x : ℕ) → x < 2 ^ 16 → set (set d at (x / 2 ^ 8)) (at + 1) (x % 2 ^ 8) ≡ written d at (octets2 x)
-octets2-stored d at x h = written-two d at (x / 2 ^ 8) (x % 2 ^ 8) ∙ ap (written d at) (octets2-is x h)
-
--- where there is no room for the second byte
-pub octets2-first : (d : List ℕ) (at x : ℕ) → x < 2 ^ 16 → length d ≤ at + 1 → written d at (x / 2 ^ 8 ∷ []) ≡ written d at (octets2 x)
-octets2-first d at x h l = written-cut d at 1 (x / 2 ^ 8 ∷ x % 2 ^ 8 ∷ []) l ∙ ap (written d at) (octets2-is x h)
-
-pub octets4-halves : (d : List ℕ) (at x : ℕ) → written (written d at (octets2 (x / 2 ^ 16))) (at + 2) (octets2 (x % 2 ^ 16)) ≡ written d at (octets4 x)
-unfolding octets4
-octets4-halves d at x = written-pair d at 2 (octets2 (x / 2 ^ 16)) (octets2 (x % 2 ^ 16)) (octets2-length (x / 2 ^ 16))
-
-pub octets8-halves : (d : List ℕ) (at x : ℕ) → written (written d at (octets4 (x / 2 ^ 32))) (at + 4) (octets4 (x % 2 ^ 32)) ≡ written d at (octets8 x)
-unfolding octets8
-octets8-halves d at x = written-pair d at 4 (octets4 (x / 2 ^ 32)) (octets4 (x % 2 ^ 32)) (octets4-length (x / 2 ^ 32))
-
--- zeros from index `from` up to i
-unfoldable pub zeroed_to : List ℕ → ℕ → ℕ → List ℕ
-zeroed_to d from i = written d from (replicate (i - from) 0)
-
-pub zeros-none : (d : List ℕ) (from : ℕ) → d ≡ zeroed_to d from from
-unfolding zeroed_to
-zeros-none d from =
-    let e : from - from ≡ 0 = omega arith in
-    rw e (sym (written_none d from))
-
-pub zeros-more : (d : List ℕ) (from i : ℕ) → from ≤ i → set (zeroed_to d from i) i 0 ≡ zeroed_to d from (i + 1)
-unfolding zeroed_to
-zeros-more d from i h = go (i - from) i (i + 1 - from) (omega arith) (omega arith)
-  where
-    go : (j i k : ℕ) → i ≡ from + j → j + 1 ≡ k → set (written d from (replicate j 0)) i 0 ≡ written d from (replicate k 0)
-    go j i k e e' = rw (e, ← e', written-more d from j (replicate j 0) 0 (length-replicate j 0), replicate-append-replicate {A = ℕ} j 1 0)
-
-pub zeros-all : (d : List ℕ) (from i : ℕ) → i - from ≡ length d - from → zeroed_to d from i ≡ zeroed d from
-unfolding zeroed_to
-zeros-all d from i e = rw e (zeroed-written d from)
-
--- the first j bytes of a copy
-unfoldable pub copied : List ℕ → ℕ → List ℕ → ℕ → ℕ → List ℕ
-copied d at s from j = written d at (take j (drop from s))
-
-pub copied_none : (d : List ℕ) (at : ℕ) (s : List ℕ) (from : ℕ) → d ≡ copied d at s from 0
-unfolding copied
-copied_none d at s from = sym (written_none d at)
-
-pub copied_more : (d : List ℕ) (at : ℕ) (s : List ℕ) (from j : ℕ) → from + j < length s
-    → set (copied d at s from j) (at + j) (get_or s (from + j) 0) ≡ copied d at s from (j + 1)
-unfolding copied
-copied_more d at s from j h =
-    let l : j < length (drop from s) = simp length-drop (omega arith) in
-    rw (← get_or-drop from s j 0, written-more d at j (take j (drop from s)) (get_or (drop from s) j 0) (length-take-le j (drop from s) (omega arith)), add-one, take-suc (drop from s) j 0 l)
-
--- as many bytes as both slices have are all
-pub copied_all : (d : List ℕ) (at : ℕ) (s : List ℕ) (from n k : ℕ) → k ≡ min n (min (length s - from) (length d - at))
-    → copied d at s from k ≡ written d at (take n (drop from s))
-unfolding copied
-copied_all d at s from n k h = go (dec_le (length d) (at + k))
-  where
-    ends : (length d ≤ at + k → ⊥) → Dec (n ≤ k) → take k (drop from s) ≡ take n (drop from s)
-    ends p (yes q) =
-        let e : k ≡ n = omega arith in
-        rw e
-    ends p (no q) =
-        take_all k (drop from s) (simp length-drop (omega arith)) ∙ sym (take_all n (drop from s) (simp length-drop (omega arith)))
-
-    go : Dec (length d ≤ at + k) → written d at (take k (drop from s)) ≡ written d at (take n (drop from s))
-    go (yes p) = ap (written d at) (sym (take-take k n (drop from s) (omega arith))) ∙ written-cut d at k (take n (drop from s)) p
-    go (no p) = ap (written d at) (ends p (dec_le n k))
-
--- a loop that copies n bytes, at its end
-pub copied-done : (d : List ℕ) (at : ℕ) (s : List ℕ) (from j n : ℕ) → j ≤ n → n ≤ j → copied d at s from j ≡ written d at (take n (drop from s))
-unfolding copied
-copied-done d at s from j n p q = ap (λ k. written d at (take k (drop from s))) (le_antisymm p q)
 
 -- ---- by way of a local piece
 

@@ -7,11 +7,13 @@ use mathlib.Core.List.{List, [], ◌∷◌, ◌++◌, map, flat_map, map-map, Me
 use lib.ListN.{length, length-map}
 use Rattle.spec.specs.declared.IsdAsn.{IsdAsn}
 use Rattle.spec.specs.declared.Edge.{Edge}
+use Rattle.spec.specs.declared.Outcome.{Outcome}
 use Rattle.spec.specs.declared.Refusal.{Refusal}
 use Rattle.spec.specs.declared.Refusal.TheVariants.{Small, Stranger as StrangerRefusal}
-use Rattle.spec.specs.declared.Verdict.TheVariants.{Accepted}
-use Rattle.spec.specs.declared.PathAnswer.{PathAnswer}
-use Rattle.spec.specs.declared.PathAnswer.TheVariants.{Refused as RefusedPath}
+use Rattle.std.specs.Prelude.{Ok, Err, None, Option, Some}
+use Rattle.std.specs.Result.{is_err}
+use mathlib.Core.Bool.{true, false}
+use Rattle.spec.specs.Answers.{PathAnswer, Assembled, assembly, output_of, path_answer, refused_path}
 use Rattle.spec.specs.Limits.{max_edges, max_mtu, max_time, path_size}
 use Rattle.spec.specs.Basics.{range, padded}
 use Rattle.spec.specs.Octets.{octets2}
@@ -20,7 +22,6 @@ use Rattle.spec.specs.Order.{solution_edge}
 use Rattle.spec.specs.Assembly.{least, is_peer_edge, at_shortcut, is_peer_hop, hop_count, used_entries, hop_of, mtus_at, interfaces_at, stop_at, hops_of, interfaces_of, mtus_of, info_of, expiry_of, segment_of, info_on, hops_on, interfaces_on, mtus_on, expiry_on, CombinedPath, combined_path, outcome}
 use Rattle.spec.specs.Records.{record_edge, solution_in, solution_octets}
 use Rattle.spec.specs.ByRecord.{edges_in as edges_named}
-use Rattle.spec.specs.Answers.{Assembled, assembly, output_of, path_answer, refused_path}
 use Rattle.spec.proofs.Lists.{map_same}
 use Rattle.spec.proofs.Membership.{map-mem}
 use Rattle.spec.proofs.BookLaws.{stored}
@@ -34,25 +35,11 @@ use Rattle.output.specs.Write.{zeroed}
 use Rattle.output.proofs.Writing.{zeroed-all}
 use Rattle.book.specs.Offsets.{open_table}
 use Rattle.book.proofs.Tables.{open-accepted}
-use Rattle.graph.specs.declared.Chain.{Chain}
-use Rattle.graph.specs.declared.Chain.TheVariants.{Refused, Stranger, Edges}
-use Rattle.graph.specs.Recorded.{recorded}
+use Rattle.graph.specs.Recorded.{Chain, recorded}
 use Rattle.graph.proofs.RecordedLaws.{OfChain, said-refused, said-stranger, said-edges}
 use Rattle.graph.specs.Ready.{Ready}
+use Rattle.path.specs.Refusing.{zeros_if_refused}
 use Rattle.path.specs.Edges.{edge_by, InBook, edge_in, edges_in, EdgesInBook, RecordInBook}
-
--- what is left where a chain is not refused, and where it has no edges
-abbrev pub NotRefused : Chain → Type 0
-NotRefused chain = (r : Refusal) → chain ≡ Refused r → ⊥
-
-abbrev pub NotEdges : Chain → Type 0
-NotEdges chain = (n : ℕ) → chain ≡ Edges n → ⊥
-
-refused-not : (x : Refusal) → NotRefused (Refused x) → ⊥
-refused-not x h = h x refl
-
-edges-not : (n : ℕ) → NotEdges (Edges n) → ⊥
-edges-not n h = h n refl
 
 -- ---- assembly knows an edge by what a record has of it
 
@@ -105,7 +92,7 @@ same-path b c =
 
 same_answer : (b : List ℕ) (bytes : ℕ) (c : List Edge) → path_answer b bytes (map again c) ≡ path_answer b bytes c
 unfolding path_answer
-same_answer b bytes c = ap (λ (p : CombinedPath). (outcome p, output_of (outcome p) bytes p)) (same-path b c)
+same_answer b bytes c = ap (λ (p : CombinedPath). (Ok (outcome p), output_of (outcome p) bytes p)) (same-path b c)
 
 -- ---- the edges of a chain's record
 
@@ -160,50 +147,55 @@ module _ (b : List ℕ) (src dst : IsdAsn) (given : List ℕ) (n : ℕ) (of : (c
             few = omega (arith, length-map c again, few);
           }
 
-  pub path-answer : (bytes : ℕ) → path_size ≤ bytes → (r : PathAnswer) (o : List ℕ)
-      → (r ≡ (path_answer b bytes (edges_in given n)).0) × (o ≡ (path_answer b bytes (edges_in given n)).1)
-      → ◌≡◌ {A = Assembled} (r, o) (assembly b src dst given bytes)
+  pub path-answer : (bytes : ℕ) → path_size ≤ bytes → (r : Outcome) (o : List ℕ)
+      → (Ok r ≡ (path_answer b bytes (edges_in given n)).0) × (o ≡ (path_answer b bytes (edges_in given n)).1)
+      → ◌≡◌ {A = Assembled} (Ok r, zeros_if_refused (Ok r) o) (assembly b src dst given bytes)
+  unfolding zeros_if_refused
   path-answer bytes room r o p =
       ap₂ (λ x l. (x, l)) p.0 p.1 ∙ ap (path_answer b bytes) chain-edges ∙ same_answer b bytes c ∙ sym (of.1.answer bytes room)
 
 -- a chain's record is the book's
-pub of-book : (b : List ℕ) (src dst : IsdAsn) (c : List Edge) → verdict b ≡ Accepted → IsChain b src dst c → OfBook b (solution_octets c)
+pub of-book : (b : List ℕ) (src dst : IsdAsn) (c : List Edge) → verdict b ≡ Ok tt → IsChain b src dst c → OfBook b (solution_octets c)
 of-book b src dst c ok h =
     subst (RecordInBook b (solution_octets c)) (sym (count-back c))
     (chain-in-book b src dst (solution_octets c) (length c)
     (c, record { ok = ok; chain = h; its = refl; answer = λ bytes room. assembly-chain b src dst bytes ok room c h }, refl))
 
-pub table-ready : (b table : List ℕ) → verdict b ≡ Accepted → table ≡ open_table b → Ready b table
+pub table-ready : (b table : List ℕ) → verdict b ≡ Ok tt → table ≡ open_table b → Ready b table
 table-ready b table ok q = record { ok = ok; table = q ∙ open-accepted b refl ok }
 
 -- ---- the answers
 
-module _ (b : List ℕ) (src dst : IsdAsn) (given : List ℕ) (chain : Chain) (said : chain ≡ recorded b src dst given) where
-  accepted-by : NotRefused chain → verdict b ≡ Accepted
-  accepted-by h = go chain refl h
-    where
-      go : (r : Chain) → chain ≡ r → NotRefused r → verdict b ≡ Accepted
-      go (Refused x) q k = absurd (refused-not x k)
-      go Stranger q k = (said-stranger b src dst given chain said q).ok
-      go (Edges n) q k = (said-edges b src dst given chain said n q).1.ok
+module _ (b : List ℕ) (src dst : IsdAsn) (given : List ℕ) (chain : Chain) (said : chain ≡ recorded b src dst given) (out : List ℕ) where
+  refuses : (x : Refusal) → assembly b src dst given (length out) ≡ refused_path (length out) x
+      → ◌≡◌ {A = Assembled} (Err x, zeros_if_refused (Err x) out) (assembly b src dst given (length out))
+  unfolding refused_path zeros_if_refused
+  refuses x q = sym q
 
-  module _ (out zero : List ℕ) (z : zero ≡ zeroed out 0) where
-    refuses : (x : Refusal) → assembly b src dst given (length out) ≡ refused_path (length out) x
-        → ◌≡◌ {A = Assembled} (RefusedPath x, zero) (assembly b src dst given (length out))
-    unfolding refused_path
-    refuses x q = ap (λ l. (RefusedPath x, l)) (z ∙ zeroed-all out) ∙ sym q
+  pub refused-answer : (x : Refusal) → chain ≡ Err x → ◌≡◌ {A = Assembled} (Err x, zeros_if_refused (Err x) out) (assembly b src dst given (length out))
+  refused-answer x q = refuses x (assembly-refused b src dst (length out) given x (said-refused b src dst given chain said x q))
 
-    pub refused-answer : (x : Refusal) → chain ≡ Refused x → ◌≡◌ {A = Assembled} (RefusedPath x, zero) (assembly b src dst given (length out))
-    refused-answer x q = refuses x (assembly-refused b src dst (length out) given x (said-refused b src dst given chain said x q))
+  accepted-by : (n : Option ℕ) → chain ≡ Ok n → verdict b ≡ Ok tt
+  accepted-by None q = (said-stranger b src dst given chain said q).ok
+  accepted-by (Some n) q = (said-edges b src dst given chain said n q).1.ok
 
-    pub small-answer : NotRefused chain → length out < path_size → ◌≡◌ {A = Assembled} (RefusedPath Small, zero) (assembly b src dst given (length out))
-    small-answer h l = refuses Small (assembly-small b src dst (length out) given (accepted-by h) l)
+  pub small-answer : (n : Option ℕ) → chain ≡ Ok n → length out < path_size
+      → ◌≡◌ {A = Assembled} (Err Small, zeros_if_refused (Err Small) out) (assembly b src dst given (length out))
+  small-answer n q l = refuses Small (assembly-small b src dst (length out) given (accepted-by n q) l)
 
-    pub stranger-answer : NotRefused chain → NotEdges chain → path_size ≤ length out
-        → ◌≡◌ {A = Assembled} (RefusedPath StrangerRefusal, zero) (assembly b src dst given (length out))
-    stranger-answer h k room = refuses StrangerRefusal ((said-stranger b src dst given chain said (go chain h k)).answer (length out) room)
-      where
-        go : (r : Chain) → NotRefused r → NotEdges r → r ≡ Stranger
-        go (Refused x) h k = absurd (refused-not x h)
-        go Stranger h k = refl
-        go (Edges n) h k = absurd (edges-not n k)
+  pub stranger-answer : (n : Option ℕ) → chain ≡ Ok n → ((k : ℕ) → n ≡ Some k → ⊥) → path_size ≤ length out
+      → ◌≡◌ {A = Assembled} (Err StrangerRefusal, zeros_if_refused (Err StrangerRefusal) out) (assembly b src dst given (length out))
+  stranger-answer None q h room = refuses StrangerRefusal ((said-stranger b src dst given chain said q).answer (length out) room)
+  stranger-answer (Some k) q h room = absurd (h k refl)
+
+-- what is left once the output of a refusal is zeroed
+module _ (whole : Assembled) (d : List ℕ) where
+  pub zeroed-refusal : (r : PathAnswer) → is_err r ≡ true → (d' : List ℕ) → d' ≡ zeroed d 0 → (r, zeros_if_refused r d) ≡ whole → (r, d') ≡ whole
+  unfolding zeros_if_refused
+  zeroed-refusal (Err x) t d' z q = ap (λ l. (Err x, l)) (z ∙ zeroed-all d) ∙ q
+  zeroed-refusal (Ok o) t d' z q = let y : ◌≡◌ {A = ℕ} 0 1 = cc in absurd (omega arith)
+
+  pub kept-answer : (r : PathAnswer) → is_err r ≡ false → (r, zeros_if_refused r d) ≡ whole → (r, d) ≡ whole
+  unfolding zeros_if_refused
+  kept-answer (Ok o) t q = q
+  kept-answer (Err x) t q = let y : ◌≡◌ {A = ℕ} 0 1 = cc in absurd (omega arith)

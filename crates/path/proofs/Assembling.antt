@@ -12,16 +12,16 @@ use Rattle.spec.specs.declared.IsdAsn.{IsdAsn}
 use Rattle.spec.specs.declared.PathInterface.{PathInterface}
 use Rattle.spec.specs.declared.Edge.{Edge}
 use Rattle.spec.specs.declared.Path.{Path as PathHead}
-use Rattle.spec.specs.declared.PathAnswer.{PathAnswer}
-use Rattle.spec.specs.declared.PathAnswer.TheVariants.{Path, Loop, Bare}
+use Rattle.spec.specs.Answers.{output_of, path_answer}
+use Rattle.spec.specs.declared.Outcome.{Outcome}
+use Rattle.spec.specs.declared.Outcome.TheVariants.{Path, Loop, Bare}
 use Rattle.spec.specs.Limits.{max_edges, max_entries, path_size, path_head_size, info_size, hop_size}
-use Rattle.std.specs.Prelude.{if◌then◌else◌}
+use Rattle.std.specs.Prelude.{Ok, if◌then◌else◌}
 use Rattle.spec.specs.Basics.{range, padded}
 use Rattle.spec.specs.Octets.{Bytes, octets2, octets4, octets8}
 use Rattle.spec.specs.Book.{isd_asn_at}
 use Rattle.spec.specs.Assembly.{hop_count, segment_of, info_on, hops_on, interfaces_on, CombinedPath, combined_path, is_loop, is_bare, outcome}
 use Rattle.spec.specs.Records.{info_octets, hop_octets, as_octets, interface_as_octets, interface_id_octets, no_interface, path_head, path_head_octets, path_octets}
-use Rattle.spec.specs.Answers.{output_of, path_answer}
 use Rattle.spec.proofs.Lists.{flat-map, flat-flat}
 use Rattle.spec.proofs.ByteLaws.{info-length, hop-length}
 use Rattle.spec.proofs.BookLaws.{AcceptedBook}
@@ -177,9 +177,9 @@ module _ (b : List ℕ) (bytes : Bytes b) (accepted : AcceptedBook b) (c : List 
 
   -- ---- the answer
 
-  answer : (n : ℕ) (r : PathAnswer) → outcome p ≡ r → (d' : List ℕ) → d' ≡ output_of r n p → (r ≡ (path_answer b n c).0) × (d' ≡ (path_answer b n c).1)
+  answer : (n : ℕ) (r : Outcome) → outcome p ≡ r → (d' : List ℕ) → d' ≡ output_of r n p → (Ok r ≡ (path_answer b n c).0) × (d' ≡ (path_answer b n c).1)
   unfolding path_answer
-  answer n r q d' e = (sym q, e ∙ ap (λ x. output_of x n p) (sym q))
+  answer n r q d' e = (ap (λ x. Ok x) (sym q), e ∙ ap (λ x. output_of x n p) (sym q))
 
   module _ (d : List ℕ) (n : ℕ) (same : length d ≡ n) (t : Bool) (thrice : t ≡ some_thrice (numbers_in a 0 (ends.ases / 8))) where
     zeros : (d' : List ℕ) → d' ≡ zeroed d 0 → d' ≡ replicate n 0
@@ -190,14 +190,14 @@ module _ (b : List ℕ) (bytes : Bytes b) (accepted : AcceptedBook b) (c : List 
     bare-is (i ∷ is) q = absurd (omega arith)
 
     pub answer-loop : t ≡ true → (d' : List ℕ) → d' ≡ zeroed d 0
-        → (Loop ≡ (path_answer b n c).0) × (d' ≡ (path_answer b n c).1)
+        → (Ok Loop ≡ (path_answer b n c).0) × (d' ≡ (path_answer b n c).1)
     answer-loop q d' e = answer n Loop loops d' (zeros d' e)
       where
         loops : outcome p ≡ Loop
         loops = unfold outcome in (ap (λ (s : Bool). if s then Loop else if is_bare p.interfaces then Bare else Path) (sym (thrice ∙ loop-read) ∙ q))
 
     pub answer-bare : t ≡ false → ends.ases / 8 ≡ 0 → (d' : List ℕ) → d' ≡ zeroed d 0
-        → (Bare ≡ (path_answer b n c).0) × (d' ≡ (path_answer b n c).1)
+        → (Ok Bare ≡ (path_answer b n c).0) × (d' ≡ (path_answer b n c).1)
     answer-bare q none d' e = answer n Bare bare d' (zeros d' e)
       where
         bare : outcome p ≡ Bare
@@ -208,7 +208,7 @@ module _ (b : List ℕ) (bytes : Bytes b) (accepted : AcceptedBook b) (c : List 
 
   pub answer-path : (t : Bool) → t ≡ some_thrice (numbers_in a 0 (ends.ases / 8)) → t ≡ false → (ends.ases / 8 ≡ 0 → ⊥)
       → (m : ℕ) (d' : List ℕ) → d' ≡ padded m (path_octets (combined_path b c)) → (n : ℕ) → m ≡ n
-      → (Path ≡ (path_answer b n c).0) × (d' ≡ (path_answer b n c).1)
+      → (Ok Path ≡ (path_answer b n c).0) × (d' ≡ (path_answer b n c).1)
   answer-path t thrice q some m d' e n same = answer n Path path d' (e ∙ ap (λ k. padded k (path_octets p)) same)
     where
       full_is : (is : List PathInterface) → (length is ≡ 0 → ⊥) → is_bare is ≡ false

@@ -1,5 +1,6 @@
 -- A buffer as slots of records: what a write of one record leaves in each, and the bytes of the first slots.
 -- Assumes nothing.
+use Rattle.std.proofs.lemmas.List.{map-append}
 use Prim.Native.Nat.{ℕ, zero, suc, ◌+◌, ◌-◌, ◌*◌, ◌≤◌, ◌<◌}
 use native.Mathlib.Nat.{zero-add, add-zero}
 use native.Mathlib.Numerals.{add-one}
@@ -9,13 +10,15 @@ use mathlib.Core.Path.{◌≡◌, refl, sym, ap, ap₂, ◌∙◌, subst}
 use mathlib.Core.List.Memᴰ
 use mathlib.Core.List.Memᴰ.{head}
 use mathlib.Core.List.{List, [], ◌∷◌, ◌++◌, map, flat_map, append_assoc, append-nil, Memᴰ as Mem}
-use lib.ListN.{length, get_or, set, take, drop, replicate, replicate-append-replicate, length-append, length-map, length-drop, length-replicate, take-append-drop}
+use lib.ListN.{length, get_or, take, drop, replicate, length-append, length-map, length-drop, length-replicate, take-append-drop}
 use lib.Seq.{take_at, drop_at, take-add, drop-drop, drop-append-le, take-append-le, drop-append-add, length-take-le, take_all}
 use Rattle.spec.specs.Limits.{solution_size}
 use Rattle.spec.specs.Basics.{range}
-use Rattle.spec.proofs.Lists.{length-range, range-suc, map-append, flat_map-append}
+use Rattle.spec.proofs.Lists.{length-range, range-suc, flat_map-append}
 use Rattle.output.specs.Write.{written}
-use Rattle.output.proofs.Writing.{written-within, written_none, written_one, written-join}
+use Rattle.output.proofs.Copied.{copied_in}
+use borrow.Rule.Slice.PartMut.{put_mid}
+use Rattle.output.proofs.Writing.{written-within}
 use Rattle.path.specs.Slots.{record_at, records_to}
 
 -- ---- the first slots
@@ -66,11 +69,6 @@ module _ (d : List ℕ) where
 
 pub copy-whole : (r : List ℕ) → length r ≡ solution_size → take solution_size (drop 0 r) ≡ r
 copy-whole r e = take_all solution_size r (omega arith)
-
-pub fresh-copy : (r : List ℕ) → length r ≡ solution_size → written (replicate solution_size 0) 0 r ≡ r
-fresh-copy r e =
-    written-within (replicate solution_size 0) 0 r (omega (arith, length-replicate {A = ℕ} solution_size 0))
-    ∙ ap (λ n. r ++ drop (0 + n) (replicate solution_size 0)) e ∙ append-nil r
 
 module _ (d : List ℕ) (i : ℕ) (r : List ℕ) (size : length r ≡ solution_size) (room : solution_size * (i + 1) ≤ length d) where
   abbrev before : List ℕ
@@ -137,16 +135,9 @@ module _ (d d' : List ℕ) (i : ℕ) (same : drop (solution_size * i) d' ≡ dro
 
 -- ---- zeros from one index up to another
 
-pub cleared-none : (d : List ℕ) (from : ℕ) → d ≡ written d from (replicate (from - from) 0)
-cleared-none d from = let e : 0 ≡ from - from = omega arith in sym (written_none d from) ∙ ap (λ n. written d from (replicate n 0)) e
-
-pub cleared_more : (d out : List ℕ) (from i : ℕ) → from ≤ i → out ≡ written d from (replicate (i - from) 0) → set out i 0 ≡ written d from (replicate (i + 1 - from) 0)
-cleared_more d out from i h q =
-    let zs : List ℕ = replicate (i - from) 0 in
-    let e : i ≡ from + length zs = omega (arith, length-replicate {A = ℕ} (i - from) 0) in
-    let f : i - from + 1 ≡ i + 1 - from = omega arith in
-    sym (written_one out i 0) ∙ ap₂ (λ l n. written l n (0 ∷ [])) q e ∙ written-join d from zs (0 ∷ [])
-    ∙ ap (written d from) (replicate-append-replicate {A = ℕ} (i - from) 1 0 ∙ ap (λ n. replicate {A = ℕ} n 0) f)
-
-pub cleared-all : (d out : List ℕ) (from i end : ℕ) → out ≡ written d from (replicate (i - from) 0) → i ≡ end → out ≡ written d from (replicate (end - from) 0)
-cleared-all d out from i end q e = q ∙ ap (λ n. written d from (replicate (n - from) 0)) e
+-- after `d[from..end].fill(0)`
+pub filled : (d : List ℕ) (from end k n : ℕ) (ys : List ℕ) → (((y : ℕ) → y ≡ 0 → y ≡ 0) → ys ≡ replicate n 0) → n ≡ end - from → k ≡ n → from ≤ end → end ≤ length d
+    → put_mid from k d ys ≡ written d from (replicate (end - from) 0)
+filled d from end k n ys e p q h g =
+    copied_in d from k (replicate n 0) ys (e (λ y h. h)) (length-replicate {A = ℕ} n 0 ∙ sym q) (omega arith)
+    ∙ ap (λ i. written d from (replicate {A = ℕ} i 0)) p

@@ -1,5 +1,6 @@
 -- The edges of a record, one after the other.
 -- Assumes nothing.
+use Rattle.std.proofs.lemmas.List.{map-append}
 use Prim.Native.Nat.{ℕ, ◌+◌, ◌*◌, ◌≤◌, ◌<◌, min}
 use native.Mathlib.Nat.{le_antisymm, zero-add}
 use native.Mathlib.Omega.{arith}
@@ -12,7 +13,7 @@ use Rattle.spec.specs.Limits.{max_edges, solution_head_size, edge_size, max_mtu,
 use Rattle.spec.specs.Basics.{range}
 use Rattle.spec.specs.Assembly.{least, mtus_on, expiry_on}
 use Rattle.spec.specs.Records.{record_edge}
-use Rattle.spec.proofs.Lists.{map-append, map-range-last, flat_map-append, flat-one, length-range}
+use Rattle.spec.proofs.Lists.{map-range-last, flat_map-append, flat-one, length-range}
 use Rattle.spec.proofs.Membership.{mem-map}
 use Rattle.spec.proofs.BookLaws.{mem-range}
 use Rattle.path.specs.declared.entry.Walk.{Walk}

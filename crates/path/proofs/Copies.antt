@@ -15,6 +15,9 @@ use Rattle.spec.proofs.OctetLaws.{byte-first, bytes-split, mac-bytes, be16s-byte
 use Rattle.output.specs.Write.{written}
 use Rattle.output.proofs.Writing.{written_one, written-pair, passed_on, piece-put}
 
+pub same_byte : (s : List ℕ) (i j : ℕ) → i ≡ j → get_or s i 0 ≡ get_or s j 0
+same_byte s i j q = ap (λ k. get_or s k 0) q
+
 module _ (b : List ℕ) (bytes : Bytes b) where
   -- of a peer the bytes of a hop stand in one piece
   pub link-copied : (q : ℕ) → q + peer_size ≤ length b → take hop_size (drop (q + 12) b) ≡ hop_octets (peer_entry_at b q).hop

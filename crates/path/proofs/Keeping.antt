@@ -1,20 +1,19 @@
 -- One more record among the routes held.
 -- Assumes nothing.
-use Prim.Native.Nat.{ℕ, zero, suc, ◌+◌, ◌-◌, ◌*◌, ◌≤◌, ◌<◌}
+use Prim.Native.Nat.{ℕ, zero, suc, ◌+◌, ◌*◌, ◌≤◌, ◌<◌}
 use native.Mathlib.Decide.{ℕ_discrete, dec_lt}
 use native.Mathlib.Omega.{arith}
 use mathlib.Core.Path.{◌≡◌, refl, sym, ap, ap₂, ◌∙◌, subst}
 use mathlib.Core.Bool.{Bool, true, false}
-use mathlib.Core.List.Memᴰ.{head}
-use mathlib.Core.List.Memᴰ.{tail}
+use mathlib.Core.List.Memᴰ.{head, tail}
 use mathlib.Core.List.{List, [], ◌∷◌, ◌++◌, map, Memᴰ as Mem}
 use lib.ListN.{length, get_or, set, drop, length-take, length-drop, length-set}
 use lib.Seq.{get_or-set_same, get_or-set_other, set-get_or, ext_get_or}
 use borrow.Author.Tests.{lt-ltb, le-ltb}
 use Rattle.spec.specs.declared.PathInterface.{PathInterface}
-use Rattle.spec.specs.declared.PathAnswer.TheVariants.{Path, Loop, Bare}
+use Rattle.spec.specs.declared.Outcome.TheVariants.{Path, Loop, Bare}
 use Rattle.spec.specs.Limits.{solution_size}
-use Rattle.std.specs.Prelude.{if◌then◌else◌}
+use Rattle.std.specs.Prelude.{Ok, Option, Some, None, if◌then◌else◌}
 use Rattle.spec.specs.Basics.{filter, range, Once}
 use Rattle.spec.specs.Assembly.{is_bare, outcome}
 use Rattle.spec.specs.Printed.{is_path}
@@ -77,7 +76,7 @@ module _ {A : Type 0} (route : A → List PathInterface) (expiry : A → ℕ) (z
 module _ (b given a i : List ℕ) (s : Shown) (w : Shows b given a i s) where
   pub no-loop-path : (t : Bool) → t ≡ some_thrice (numbers_in a 0 s.count) → t ≡ true → has_route b given ≡ false
   unfolding has_route outcome route_in
-  no-loop-path t q e = ap (λ u. is_path (if u then Loop else if is_bare (path_in b given).interfaces then Bare else Path)) (sym w.loops ∙ sym q ∙ e)
+  no-loop-path t q e = ap (λ u. is_path (Ok (if u then Loop else if is_bare (path_in b given).interfaces then Bare else Path))) (sym w.loops ∙ sym q ∙ e)
 
   empty-is : (is : List PathInterface) → length is ≡ 0 → is_bare is ≡ true
   empty-is [] q = unfold is_bare in refl
@@ -91,9 +90,9 @@ module _ (b given a i : List ℕ) (s : Shown) (w : Shows b given a i s) where
   size = ap length w.route ∙ shown-length a i s.count
 
   module _ (t : Bool) (q : t ≡ some_thrice (numbers_in a 0 s.count)) (e : t ≡ false) where
-    by_bare : {u : Bool} → is_bare (route_in b given) ≡ u → has_route b given ≡ is_path (if u then Bare else Path)
+    by_bare : {u : Bool} → is_bare (route_in b given) ≡ u → has_route b given ≡ is_path (Ok (if u then Bare else Path))
     unfolding has_route outcome route_in
-    by_bare r = ap₂ (λ x y. is_path (if x then Loop else if y then Bare else Path)) (sym w.loops ∙ sym q ∙ e) r
+    by_bare r = ap₂ (λ x y. is_path (Ok (if x then Loop else if y then Bare else Path))) (sym w.loops ∙ sym q ∙ e) r
 
     pub no-bare-path : s.count ≡ 0 → has_route b given ≡ false
     no-bare-path z = by_bare (empty-is (route_in b given) (size ∙ z))
@@ -102,9 +101,6 @@ module _ (b given a i : List ℕ) (s : Shown) (w : Shows b given a i s) where
     has-path n = by_bare (some_is (route_in b given) (λ z. n (sym size ∙ z)))
 
 -- ---- one record
-
-pub set_room : (xs : List ℕ) (i x j : ℕ) → j < length xs → j < length (set xs i x)
-set_room xs i x j l = omega (arith, length-set xs i x)
 
 pub record-size : (d : List ℕ) (k : ℕ) → solution_size * (k + 1) ≤ length d → length (record_at d k) ≡ solution_size
 record-size d k room = omega (arith, length-take solution_size (drop (solution_size * k) d), length-drop (solution_size * k) d)
@@ -172,9 +168,9 @@ module _ (b : List ℕ) (keys : Pair) (d marks next heads : List ℕ) (kept : �
     same_in : (j : ℕ) {t : Bool} → j < kept → same_interfaces (shown_in a i s.count) (route_in b (record_at d j)) ≡ t → same_interfaces (route_in b given) (route_in b (get_or hs j [])) ≡ t
     same_in j l q = ap₂ (λ r g. same_interfaces r (route_in b g)) sh.route (record-in d kept j l) ∙ q
 
-    module _ (h : Held) (so : Sought b (shown_in a i s.count) d kept h) where
+    module _ (h : Option Held) (so : Sought b (shown_in a i s.count) d kept h) where
       -- it is a new route
-      module _ (none : h.slot ≡ 0) (room : solution_size * (kept + 1) ≤ length d) (d' next' heads' : List ℕ) (put : d' ≡ written d (solution_size * kept) given)
+      module _ (none : h ≡ None) (room : solution_size * (kept + 1) ≤ length d) (d' next' heads' : List ℕ) (put : d' ≡ written d (solution_size * kept) given)
           (c : Chained (set marks kept x) next' heads' (kept + 1)) where
         old : (j : ℕ) → j < kept → record_at d' j ≡ record_at d j
         old j l = ap (λ e. record_at e j) put ∙ written-early d kept given long room j l
@@ -217,27 +213,27 @@ module _ (b : List ℕ) (keys : Pair) (d marks next heads : List ℕ) (kept : �
             mark j (no p) (no e) l = absurd (omega arith)
 
       -- its route is held
-      module _ (some : 0 < h.slot) where
+      module _ (held : Held) (some : h ≡ Some held) where
         abbrev k : ℕ
-        k = h.slot - 1
+        k = held.slot
 
         in_kept : k < kept
-        in_kept = omega (arith, (so.some some).0)
+        in_kept = (so.some held some).0
 
         in_list : k < length hs
         in_list = omega (arith, in_kept, n-hs)
 
         same : same_interfaces (route_in b given) (route_in b (get_or hs k [])) ≡ true
-        same = same_in k in_kept (so.some some).1
+        same = same_in k in_kept (so.some held some).1
 
-        lasts : h.expiry ≡ expiry_in b (get_or hs k [])
-        lasts = (so.some some).2 ∙ ap (expiry_in b) (sym (record-in d kept k in_kept))
+        lasts : held.expiry ≡ expiry_in b (get_or hs k [])
+        lasts = (so.some held some).2 ∙ ap (expiry_in b) (sym (record-in d kept k in_kept))
 
         found : hold_in b given hs ≡ set hs k (longer (route_in b) (expiry_in b) given (get_or hs k []))
         unfolding hold_in
         found = hold-found (route_in b) (expiry_in b) [] given hs k in_list (same_once (route_in b) (expiry_in b) [] hs w.once (route_in b given) k in_list same) same
 
-        pub kept-stays : s.expiry ≤ h.expiry → Kept b keys (hold_in b given) d kept d (set marks kept x) next heads kept
+        pub kept-stays : s.expiry ≤ held.expiry → Kept b keys (hold_in b given) d kept d (set marks kept x) next heads kept
         unfolding longer
         kept-stays q =
             let e : expiry_in b given ≤ expiry_in b (get_or hs k []) = omega (arith, lasts, sh.expiry) in
@@ -251,7 +247,7 @@ module _ (b : List ℕ) (keys : Pair) (d marks next heads : List ℕ) (kept : �
               chained = chained-is;
             }
 
-        module _ (q : h.expiry < s.expiry) (room : solution_size * (kept + 1) ≤ length d) (d' : List ℕ) (put : d' ≡ written d (solution_size * (h.slot - 1)) given) where
+        module _ (q : held.expiry < s.expiry) (room : solution_size * (kept + 1) ≤ length d) (d' : List ℕ) (put : d' ≡ written d (solution_size * held.slot) given) where
           fits : solution_size * (k + 1) ≤ length d
           fits = omega (arith, in_kept)
 

@@ -16,18 +16,14 @@ use Rattle.spec.specs.declared.IsdAsn.{IsdAsn}
 use Rattle.spec.specs.declared.Edge.{Edge}
 use Rattle.spec.specs.declared.Refusal.{Refusal}
 use Rattle.spec.specs.declared.Refusal.TheVariants.{Full}
-use Rattle.spec.specs.declared.Verdict.{Verdict}
-use Rattle.spec.specs.declared.Verdict.TheVariants.{Accepted, Refused as RefusedBook}
-use Rattle.spec.specs.declared.ListAnswer.{ListAnswer}
-use Rattle.spec.specs.declared.ListAnswer.TheVariants.{Count, Refused as RefusedList}
+use Rattle.std.specs.Prelude.{Ok, Err, if◌then◌else◌}
+use Rattle.spec.specs.Answers.{ListAnswer, Listed, refused_list, listing_of, listing_on, listing}
+use Rattle.spec.specs.Book.{Verdict, verdict}
 use Rattle.spec.specs.Limits.{solution_size, max_slots, max_edges}
-use Rattle.std.specs.Prelude.{if◌then◌else◌}
 use Rattle.spec.specs.Basics.{filter, range, padded}
-use Rattle.spec.specs.Book.{verdict}
 use Rattle.spec.specs.Chains.{IsChain}
 use Rattle.spec.specs.Order.{solutions}
 use Rattle.spec.specs.Records.{solution_octets, slots}
-use Rattle.spec.specs.Answers.{Listed, refused_list, listing_of, listing_on, listing}
 use Rattle.spec.specs.Assembly.{CombinedPath, combined_path, outcome}
 use Rattle.spec.specs.Printed.{is_path, has_path}
 use Rattle.spec.proofs.Membership.{map-mem, filter-mem}
@@ -88,7 +84,7 @@ module _ (b : List ℕ) (src dst : IsdAsn) (size : ℕ) where
   found = solutions sha256 b src dst
 
   pub record Counted (n : ℕ) (out : List ℕ) : Type 0 where
-    pub ok : verdict b ≡ Accepted
+    pub ok : verdict b ≡ Ok tt
     pub few : length (solutions sha256 b src dst) ≤ slots size
     pub count : n ≡ length (solutions sha256 b src dst)
     pub holds : out ≡ padded size (flat_map solution_octets (solutions sha256 b src dst))
@@ -101,14 +97,14 @@ module _ (b : List ℕ) (src dst : IsdAsn) (size : ℕ) where
   slots-most = omega arith
 
   module _ (a : ListAnswer) (out : List ℕ) (q : ◌≡◌ {A = Listed} (a, out) (listing sha256 b src dst size)) where
-    pub counted : (n : ℕ) → a ≡ Count n → Counted n out
+    pub counted : (n : ℕ) → a ≡ Ok n → Counted n out
     unfolding listing listing_of refused_list
     counted n e = on (verdict b) refl (sym (ap (λ (x : Listed). x.0) q) ∙ e)
       where
         listed_by : Bool → Listed
-        listed_by t = if t then (RefusedList Full, replicate size 0) else (Count (length found), padded size (flat_map solution_octets found))
+        listed_by t = if t then (Err Full, replicate size 0) else (Ok (length found), padded size (flat_map solution_octets found))
 
-        of : verdict b ≡ Accepted → (t : Bool) → ltb (slots size) (length found) ≡ t → listing sha256 b src dst size ≡ listed_by t → (listed_by t).0 ≡ Count n → Counted n out
+        of : verdict b ≡ Ok tt → (t : Bool) → ltb (slots size) (length found) ≡ t → listing sha256 b src dst size ≡ listed_by t → (listed_by t).0 ≡ Ok n → Counted n out
         of ok true l e p = let z : ◌≡◌ {A = ℕ} 0 1 = cc in absurd (omega arith)
         of ok false l e p =
             let c : n ≡ length found = cc in
@@ -124,15 +120,15 @@ module _ (b : List ℕ) (src dst : IsdAsn) (size : ℕ) where
               most = omega (arith, slots-most);
             }
 
-        on : (v : Verdict) → verdict b ≡ v → (listing_on v size found).0 ≡ Count n → Counted n out
-        on (RefusedBook s) e p = let z : ◌≡◌ {A = ℕ} 0 1 = cc in absurd (omega arith)
-        on Accepted e p = of e (ltb (slots size) (length found)) refl (ap (λ v. listing_on v size found) e) p
+        on : (v : Verdict) → verdict b ≡ v → (listing_on v size found).0 ≡ Ok n → Counted n out
+        on (Err s) e p = let z : ◌≡◌ {A = ℕ} 0 1 = cc in absurd (omega arith)
+        on (Ok tt) e p = of e (ltb (slots size) (length found)) refl (ap (λ v. listing_on v size found) e) p
 
     -- a refusal is handed on
-    pub refused-same : (r : Refusal) → a ≡ RefusedList r → ◌≡◌ {A = Listed} (RefusedList r, out) (routing sha256 b src dst size)
+    pub refused-same : (r : Refusal) → a ≡ Err r → ◌≡◌ {A = Listed} (Err r, out) (routing sha256 b src dst size)
     refused-same r e =
-        let p : (listing sha256 b src dst size).0 ≡ RefusedList r = sym (ap (λ (x : Listed). x.0) q) ∙ e in
-        ap (λ l. (RefusedList r, l)) (ap (λ (x : Listed). x.1) q ∙ list-refused sha256 b src dst size r p) ∙ sym (routing-refused sha256 b src dst size r p)
+        let p : (listing sha256 b src dst size).0 ≡ Err r = sym (ap (λ (x : Listed). x.0) q) ∙ e in
+        ap (λ l. (Err r, l)) (ap (λ (x : Listed). x.1) q ∙ list-refused sha256 b src dst size r p) ∙ sym (routing-refused sha256 b src dst size r p)
 
   -- ---- the routes of its records are the records of the routes
 
@@ -146,7 +142,7 @@ module _ (b : List ℕ) (src dst : IsdAsn) (size : ℕ) where
 
     has-back : (c : List Edge) → IsChain b src dst c → has_path b c ≡ has_route b (solution_octets c)
     unfolding has_path has_route
-    has-back c h = ap (λ (p : CombinedPath). is_path (outcome p)) (own-path c h)
+    has-back c h = ap (λ (p : CombinedPath). is_path (Ok (outcome p))) (own-path c h)
 
     own-route : (c : List Edge) → IsChain b src dst c → route_of b c ≡ route_in b (solution_octets c)
     unfolding route_of route_in
@@ -155,6 +151,10 @@ module _ (b : List ℕ) (src dst : IsdAsn) (size : ℕ) where
     own-expiry : (c : List Edge) → IsChain b src dst c → lasts_to b c ≡ expiry_in b (solution_octets c)
     unfolding lasts_to expiry_in
     own-expiry c h = ap (λ (p : CombinedPath). p.expiry) (own-path c h)
+
+    -- a book that was listed is not refused
+    pub refused-no-more : {A : Type 0} (r : Refusal) → verdict b ≡ Err r → A
+    refused-no-more r e = let q : ◌≡◌ {A = Verdict} (Err r) (Ok tt) = sym e ∙ w.ok in let z : ◌≡◌ {A = ℕ} 0 1 = cc in absurd (omega arith)
 
     slots_read : records_to out n ≡ map solution_octets (solutions sha256 b src dst)
     unfolding padded records_to
@@ -195,7 +195,7 @@ module _ (b : List ℕ) (src dst : IsdAsn) (size : ℕ) where
 
     pub routes-counted : (kept : ℕ) (d d' : List ℕ) → Routed b out n d kept → length d ≡ length out
         → d' ≡ written d (solution_size * kept) (replicate (solution_size * n - solution_size * kept) 0)
-        → ◌≡◌ {A = Listed} (Count kept, d') (routing sha256 b src dst size)
+        → ◌≡◌ {A = Listed} (Ok kept, d') (routing sha256 b src dst size)
     unfolding padded
     routes-counted kept d d' r l z =
         let held : List (List Edge) = routes b found in
@@ -203,7 +203,7 @@ module _ (b : List ℕ) (src dst : IsdAsn) (size : ℕ) where
         let k : kept ≡ length held = sym (records-length d kept) ∙ ap length q ∙ length-map held solution_octets in
         let t : take (solution_size * kept) d ≡ flat_map solution_octets held =
         records-bytes d kept ∙ ap (flat_map (λ x. x)) q ∙ flat-map solution_octets (λ x. x) held in
-        ap₂ (λ i x. (Count i, x)) k (z ∙ cleared (flat_map solution_octets held) t)
+        ap₂ (λ i x. (Ok i, x)) k (z ∙ cleared (flat_map solution_octets held) t)
         ∙ sym (routing-on sha256 b src dst size w.ok w.few)
       where
         low : ℕ

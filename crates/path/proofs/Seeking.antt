@@ -1,12 +1,13 @@
 -- A route looked for among those held.
 -- Assumes nothing.
-use Prim.Native.Nat.{ℕ, suc, ◌+◌, ◌-◌, ◌%◌, ◌≤◌, ◌<◌}
+use Prim.Native.Nat.{ℕ, suc, ◌-◌, ◌%◌, ◌≤◌, ◌<◌}
 use native.Mathlib.Decide.{ℕ_discrete, dec_lt}
 use native.Mathlib.Omega.{arith}
-use mathlib.Core.Path.{◌≡◌, refl, sym, ap, ◌∙◌}
+use mathlib.Core.Path.{◌≡◌, refl, sym, ap, ◌∙◌, subst}
 use mathlib.Core.Bool.{Bool, true, false}
 use mathlib.Core.List.{List}
 use lib.ListN.{length, get_or}
+use Rattle.std.specs.Prelude.{Option, Some, None}
 use Rattle.spec.specs.declared.PathInterface.{PathInterface}
 use Rattle.spec.specs.Routes.{same_interfaces}
 use Rattle.spec.proofs.HoldingLaws.{interfaces-eq}
@@ -18,9 +19,25 @@ use Rattle.path.proofs.Buckets.{last-le, last-in, last_none}
 
 -- ---- one slot
 
+none-some : {P : Type 0} (x : Held) → ◌≡◌ {A = Option Held} None (Some x) → P
+none-some x z = let y : ◌≡◌ {A = ℕ} 0 1 = cc in absurd (omega arith)
+
+held-in : Held → Option Held → Held
+held-in y None = y
+held-in y (Some x) = x
+
+some-same : {y x : Held} → ◌≡◌ {A = Option Held} (Some y) (Some x) → y ≡ x
+unfolding held-in
+some-same {y} q = ap (held-in y) q
+
+-- what is none where it is not some
+pub absent : (h : Option Held) → ((x : Held) → h ≡ Some x → ⊥) → h ≡ None
+absent None f = refl
+absent (Some x) f = absurd (f x refl)
+
 pub not-compared : (b : List ℕ) (route : List PathInterface) (given : List ℕ) (k : ℕ) → same_interfaces route (route_in b given) ≡ false
-    → Compared b route given k (record { slot = 0; expiry = 0 })
-not-compared b route given k q = record { here = λ l. absurd (omega arith); other = λ z. q }
+    → Compared b route given k None
+not-compared b route given k q = record { here = λ x z. none-some x z; other = λ z. q }
 
 module _ (b a i : List ℕ) (count : ℕ) (given others ids : List ℕ) (s : Shown) (w : Shows b given others ids s) where
   counts-differ : (s.count ≡ count → ⊥) → same_interfaces (shown_in a i count) (route_in b given) ≡ false
@@ -38,16 +55,23 @@ module _ (b a i : List ℕ) (count : ℕ) (given others ids : List ℕ) (s : Sho
     at : {t : Bool} → same_interfaces (shown_in a i count) (route_in b given) ≡ t → same_interfaces (shown_in a i count) (route_in b r) ≡ t
     at q = ap (λ g. same_interfaces (shown_in a i count) (route_in b g)) (sym e) ∙ q
 
-    pub compared-count : (s.count ≡ count → ⊥) → Compared b (shown_in a i count) r k (record { slot = 0; expiry = 0 })
+    pub compared-count : (s.count ≡ count → ⊥) → Compared b (shown_in a i count) r k None
     compared-count n = not-compared b (shown_in a i count) r k (at (counts-differ n))
 
     module _ (l : s.count ≡ count) (t : Bool) (q : t ≡ same_interfaces (shown_in a i count) (shown_in others ids count)) where
-      pub compared-other : t ≡ false → Compared b (shown_in a i count) r k (record { slot = 0; expiry = 0 })
+      pub compared-other : t ≡ false → Compared b (shown_in a i count) r k None
       compared-other f = not-compared b (shown_in a i count) r k (at (routes-by l q ∙ f))
 
-      pub compared_same : t ≡ true → Compared b (shown_in a i count) r k (record { slot = k + 1; expiry = s.expiry })
+      pub compared_same : t ≡ true → Compared b (shown_in a i count) r k (Some (record { slot = k; expiry = s.expiry }))
       compared_same f =
-          record { here = λ z. (refl, at (routes-by l q ∙ f), w.expiry ∙ ap (expiry_in b) e); other = λ z. absurd (omega arith) }
+          record {
+            here = λ x z. let g : record { slot = k; expiry = s.expiry } ≡ x = some-same z in (
+              sym (ap (λ (h : Held). h.slot) g),
+              at (routes-by l q ∙ f),
+              sym (ap (λ (h : Held). h.expiry) g) ∙ w.expiry ∙ ap (expiry_in b) e,
+            );
+            other = λ z. none-some (record { slot = k; expiry = s.expiry }) (sym z);
+          }
 
 -- ---- the slots of a bucket
 
@@ -58,6 +82,9 @@ module _ (b : List ℕ) (route : List PathInterface) (d marks : List ℕ) (kept 
       go : (s : Bool) → same_interfaces route (route_in b (record_at d j)) ≡ s → s ≡ false
       go false e = refl
       go true e = absurd (n (t.told j l e))
+
+  abbrev Found : Held → Type 0
+  Found x = (x.slot < kept) × (same_interfaces route (route_in b (record_at d x.slot)) ≡ true) × (x.expiry ≡ expiry_in b (record_at d x.slot))
 
   -- no slot from `at` on holds the route, and the one before it is in the route's bucket
   pub record Passed (m at : ℕ) : Type 0 where
@@ -107,18 +134,17 @@ module _ (b : List ℕ) (route : List PathInterface) (d marks : List ℕ) (kept 
           by j l u (no f) (yes e) = ap (λ i. same_interfaces route (route_in b (record_at d i))) e ∙ q
           by j l u (no f) (no e) = p.others j (omega arith) u
 
-      pub sought-here : (h : Held) → Compared b route (record_at d (at - 1)) (at - 1) h → 0 < h.slot → Sought b route d kept h
-      sought-here h c l =
-          let v = c.here l in
-          let e : h.slot - 1 ≡ k = omega (arith, v.0) in
+      pub sought-here : (h : Option Held) → Compared b route (record_at d (at - 1)) (at - 1) h → (x : Held) → h ≡ Some x → Sought b route d kept (Some x)
+      sought-here h c x e =
+          let v = c.here x e in
           record {
-            some = λ x. (
+            some = λ y z. let g : x ≡ y = some-same z in subst Found g (
               omega (arith, v.0, p.within),
-              ap (λ i. same_interfaces route (route_in b (record_at d i))) e ∙ v.1,
-              v.2 ∙ sym (ap (λ i. expiry_in b (record_at d i)) e),
+              ap (λ i. same_interfaces route (route_in b (record_at d i))) v.0 ∙ v.1,
+              v.2 ∙ sym (ap (λ i. expiry_in b (record_at d i)) v.0),
             );
-            none = λ z. absurd (omega arith);
+            none = λ z. none-some x (sym z);
           }
 
-  pub sought-none : (m at : ℕ) → Passed m at → at ≤ 0 → Sought b route d kept (record { slot = 0; expiry = 0 })
-  sought-none m at p z = record { some = λ x. absurd (omega arith); none = λ e j l. p.others j (omega arith) l }
+  pub sought-none : (m at : ℕ) → Passed m at → at ≤ 0 → Sought b route d kept None
+  sought-none m at p z = record { some = λ x q. none-some x q; none = λ e j l. p.others j (omega arith) l }

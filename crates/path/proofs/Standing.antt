@@ -12,9 +12,8 @@ use Rattle.spec.specs.declared.HopField.{HopField}
 use Rattle.spec.specs.declared.AsEntry.{AsEntry}
 use Rattle.spec.specs.declared.PeerEntry.{PeerEntry}
 use Rattle.spec.specs.declared.Edge.{Edge}
-use Rattle.spec.specs.declared.Verdict.TheVariants.{Accepted}
+use Rattle.std.specs.Prelude.{Ok, if◌then◌else◌}
 use Rattle.spec.specs.Limits.{sizes_size, head_size, max_entries, max_segments}
-use Rattle.std.specs.Prelude.{if◌then◌else◌}
 use Rattle.spec.specs.Octets.{be16, be32}
 use Rattle.spec.specs.Book.{verdict, head_offset, timestamp_at, id_at, entry_count_at, body_offset, entry_offset, peer_count, isd_asn_at, as_entry_at, peer_entry_at, segment_at}
 use Rattle.spec.specs.Edges.{entry_of, as_of, peer_of}
@@ -112,7 +111,7 @@ stands b offsets r e u m h =
     (subst (StandsAt b e m) (sym t) (here b a e u m h), omega (arith, offset-small b a e.position u.position m i))
 
 -- in an accepted book the count of entries is its low byte
-module _ (b : List ℕ) (ok : verdict b ≡ Accepted) (e : Edge) (u : InBook b e) where
+module _ (b : List ℕ) (ok : verdict b ≡ Ok tt) (e : Edge) (u : InBook b e) where
   pub count-within : sizes_size + 7 + head_size * e.position < length b
   count-within = count-place b ok e.position u.position
 

@@ -130,7 +130,7 @@ module _ (d : List ℕ) (at n : ℕ) where
       next : (j : ℕ) → at + 8 * (j + 1) ≡ at + 8 + 8 * j
       next j = omega arith
 
-  pub times-end : (x : ℕ) → n ≡ 0 → times_in x (numbers_in d at n) ≡ 0
+  times-end : (x : ℕ) → n ≡ 0 → times_in x (numbers_in d at n) ≡ 0
   times-end x q = ap (times_in x) (numbers-none q) ∙ times-nil x
 
   pub thrice-end : n ≡ 0 → some_thrice (numbers_in d at n) ≡ false
@@ -141,10 +141,10 @@ module _ (d : List ℕ) (at n : ℕ) where
     first : numbers_in d at n ≡ y ∷ numbers_in d (at + 8) (n - 1)
     first = numbers-first h ∙ ap (λ z. z ∷ numbers_in d (at + 8) (n - 1)) (sym q)
 
-    pub times-found : (x : ℕ) → y ≡ x → times_in x (numbers_in d at n) ≡ times_in x (numbers_in d (at + 8) (n - 1)) + 1
+    times-found : (x : ℕ) → y ≡ x → times_in x (numbers_in d at n) ≡ times_in x (numbers_in d (at + 8) (n - 1)) + 1
     times-found x e = ap (times_in x) first ∙ times-same x y (numbers_in d (at + 8) (n - 1)) e
 
-    pub times-passed : (x : ℕ) → (y ≡ x → ⊥) → times_in x (numbers_in d at n) ≡ times_in x (numbers_in d (at + 8) (n - 1))
+    times-passed : (x : ℕ) → (y ≡ x → ⊥) → times_in x (numbers_in d at n) ≡ times_in x (numbers_in d (at + 8) (n - 1))
     times-passed x f = ap (times_in x) first ∙ times-other x y (numbers_in d (at + 8) (n - 1)) f
 
     thrice-first : some_thrice (numbers_in d at n) ≡ (ltb 1 (times_in y (numbers_in d (at + 8) (n - 1))) || some_thrice (numbers_in d (at + 8) (n - 1)))
@@ -159,6 +159,32 @@ module _ (d : List ℕ) (at n : ℕ) where
           room = omega arith;
           rest = subst (λ r. some_thrice (numbers_in d at n) ≡ (ltb (2 - r) (times_in y (numbers_in d (at + 8 * r) (n - r))) || some_thrice (numbers_in d (at + 8 * r) (n - r)))) (sym e) thrice-first;
         }
+
+-- x among the numbers from index k on
+module _ (d : List ℕ) (at n x : ℕ) where
+  unfoldable pub times_from : ℕ → ℕ
+  times_from k = times_in x (numbers_in d (at + 8 * k) (n - k))
+
+  pub times-start : times_in x (numbers_in d at n) ≡ times_from 0
+  unfolding times_from
+  times-start = ap₂ (λ i m. times_in x (numbers_in d i m)) (omega arith) (omega arith)
+
+  module _ (k y : ℕ) (q : y ≡ be64 d (at + 8 * k)) (h : k < n) where
+    later : times_in x (numbers_in d (at + 8 * k + 8) (n - k - 1)) ≡ times_from (k + 1)
+    unfolding times_from
+    later = ap₂ (λ i m. times_in x (numbers_in d i m)) (omega arith) (omega arith)
+
+    pub times-on : (y ≡ x → ⊥) → times_from k ≡ times_from (k + 1)
+    unfolding times_from
+    times-on f = times-passed d (at + 8 * k) (n - k) y q (omega arith) x f ∙ later
+
+    pub times-here : y ≡ x → times_from k ≡ times_in x (numbers_in d (at + 8 * k + 8) (n - k - 1)) + 1
+    unfolding times_from
+    times-here e = times-found d (at + 8 * k) (n - k) y q (omega arith) x e
+
+  pub times-over : (k : ℕ) → n ≤ k → times_from k ≡ 0
+  unfolding times_from
+  times-over k h = times-end d (at + 8 * k) (n - k) x (omega arith)
 
 -- two in a row: x is repeated where it stands once more, and then the second adds nothing
 two-first : (x : ℕ) (ns : List ℕ) → some_thrice (x ∷ (x ∷ ns)) ≡ (ltb 0 (times_in x ns) || some_thrice ns)

@@ -1,6 +1,7 @@
 -- The walks over an edge's hops: their turns, and what they end in.
 -- Assumes nothing.
-use Prim.Native.Nat.{ℕ, ◌+◌, ◌-◌, ◌≤◌, ◌<◌, min}
+use Rattle.std.proofs.lemmas.List.{map-append}
+use Prim.Native.Nat.{ℕ, ◌+◌, ◌-◌, ◌<◌, min}
 use native.Mathlib.Nat.{add-zero}
 use native.Mathlib.Omega.{arith}
 use mathlib.Core.Path.{◌≡◌, refl, sym, ap, ap₂, ◌∙◌}
@@ -21,7 +22,7 @@ use Rattle.spec.specs.Book.{Segment, mac_at, as_entry_at}
 use Rattle.spec.specs.Assembly.{least, units_of, life, mtus_at, hop_of, hop_count, used_entries, interfaces_at, in_direction, hops_of, interfaces_of, mtus_of, info_of, expiry_of, segment_of, hops_on, interfaces_on, mtus_on, info_on, expiry_on, is_peer_hop, is_peer_edge, at_shortcut, fold_step, fold_macs, id_below, stop_at}
 use Rattle.spec.specs.Records.{hop_octets, info_octets, interface_as_octets, interface_id_octets}
 use Rattle.spec.proofs.Membership.{not-both}
-use Rattle.spec.proofs.Lists.{map-append, map-reverse, map-range-last, range-up, range-down, flat_map-append, flat-one, flat-map, flat-flat}
+use Rattle.spec.proofs.Lists.{map-reverse, map-range-last, range-up, range-down, flat_map-append, flat-one, flat-map, flat-flat}
 use Rattle.spec.proofs.ByteLaws.{info-length}
 use Rattle.spec.proofs.RouterLaws.{id_below-next}
 use Rattle.output.specs.Write.{written}
@@ -187,16 +188,12 @@ module _ (b : List ℕ) (e : Edge) where
 -- ---- expiry
 
 module _ (b : List ℕ) (e : Edge) where
-  module _ (t x l : ℕ) (p : t ≡ (segment_of b e).timestamp) (q : x ≡ least 255 (map units_of (hops_on b e))) (r : l ≡ life x) where
-    expiry-is : min max_time (t + l) ≡ expiry_on b e
+  module _ (t x l : ℕ) (p : t ≡ (segment_of b e).timestamp) (q : x ≡ least 255 (map units_of (hops_on b e))) (s : l ≡ life x) where
+    pub expiry-is : (r : ℕ) → r ≡ min (t + l) max_time → r ≡ expiry_on b e
     unfolding expiry_on expiry_of hops_on
-    expiry-is = ap₂ (λ a c. min max_time (a + c)) p (r ∙ ap life q)
-
-    pub expiry-late : max_time - t < l → max_time ≡ expiry_on b e
-    expiry-late h = omega (arith, expiry-is)
-
-    pub expiry-soon : l ≤ max_time - t → t ≤ max_time → t + l ≡ expiry_on b e
-    expiry-soon h k = omega (arith, expiry-is)
+    expiry-is r h =
+        let m : r ≡ min max_time (t + l) = omega arith in
+        m ∙ ap₂ (λ a c. min max_time (a + c)) p (s ∙ ap life q)
 
   -- ---- ids
 

@@ -5,3 +5,4 @@ pub mod Thrice
 pub mod Whole
 pub mod Marking
 pub mod Slots
+pub mod Refusing

@@ -1,6 +1,6 @@
 -- The routes of a buffer of solution records, each by the path of its edges: what the code goes by.
 -- Assumes nothing.
-use Rattle.std.specs.Prelude.{ℕ, zero, suc, ◌+◌, ◌-◌, ◌*◌, ◌%◌, ◌≤◌, ◌<◌, ◌≡◌, Bool, true, false, List, [], map, length, get_or, take, drop, eqb, if◌then◌else◌}
+use Rattle.std.specs.Prelude.{ℕ, zero, suc, Ok, Option, Some, None, ◌+◌, ◌*◌, ◌%◌, ◌≤◌, ◌<◌, ◌≡◌, Bool, true, false, List, [], map, length, get_or, take, drop, eqb, if◌then◌else◌}
 use Rattle.spec.specs.declared.PathInterface.{PathInterface}
 use Rattle.spec.specs.Limits.{solution_size, max_edges, max_entries}
 use Rattle.spec.specs.Basics.{filter, range, Once}
@@ -16,13 +16,6 @@ use Rattle.path.specs.declared.mark.Pair.{Pair}
 use Rattle.path.specs.Edges.{edges_in, RecordInBook}
 use Rattle.path.specs.Thrice.{numbers_in, some_thrice}
 use Rattle.path.specs.Marking.{both_marks}
-
--- how many records the tables of a short and a medium list have room for
-abbrev pub short_list : ℕ
-short_list = 32
-
-abbrev pub medium_list : ℕ
-medium_list = 512
 
 -- the record in slot k, and the first n
 abbrev pub record_at : List ℕ → ℕ → List ℕ
@@ -44,7 +37,7 @@ module _ (b : List ℕ) where
   path_in given = combined_path b (edges_in given (solution_in given).count)
 
   unfoldable pub has_route : List ℕ → Bool
-  has_route given = is_path (outcome (path_in given))
+  has_route given = is_path (Ok (outcome (path_in given)))
 
   unfoldable pub route_in : List ℕ → List PathInterface
   route_in given = (path_in given).interfaces
@@ -78,14 +71,14 @@ module _ (b : List ℕ) where
     pub loops : some_thrice (numbers_in a 0 s.count) ≡ is_loop (route_in given)
 
   -- slot k was looked at for a route
-  pub record Compared (route : List PathInterface) (given : List ℕ) (k : ℕ) (h : Held) : Type 0 where
-    pub here : 0 < h.slot → (h.slot ≡ k + 1) × (same_interfaces route (route_in given) ≡ true) × (h.expiry ≡ expiry_in given)
-    pub other : h.slot ≡ 0 → same_interfaces route (route_in given) ≡ false
+  pub record Compared (route : List PathInterface) (given : List ℕ) (k : ℕ) (h : Option Held) : Type 0 where
+    pub here : (x : Held) → h ≡ Some x → (x.slot ≡ k) × (same_interfaces route (route_in given) ≡ true) × (x.expiry ≡ expiry_in given)
+    pub other : h ≡ None → same_interfaces route (route_in given) ≡ false
 
   -- the first `kept` slots were
-  pub record Sought (route : List PathInterface) (d : List ℕ) (kept : ℕ) (h : Held) : Type 0 where
-    pub some : 0 < h.slot → (h.slot ≤ kept) × (same_interfaces route (route_in (record_at d (h.slot - 1))) ≡ true) × (h.expiry ≡ expiry_in (record_at d (h.slot - 1)))
-    pub none : h.slot ≡ 0 → (j : ℕ) → j < kept → same_interfaces route (route_in (record_at d j)) ≡ false
+  pub record Sought (route : List PathInterface) (d : List ℕ) (kept : ℕ) (h : Option Held) : Type 0 where
+    pub some : (x : Held) → h ≡ Some x → (x.slot < kept) × (same_interfaces route (route_in (record_at d x.slot)) ≡ true) × (x.expiry ≡ expiry_in (record_at d x.slot))
+    pub none : h ≡ None → (j : ℕ) → j < kept → same_interfaces route (route_in (record_at d j)) ≡ false
 
   -- a record held whose route is the one looked for has its mark, which stands after those of the records held
   pub record Told (route : List PathInterface) (d marks : List ℕ) (kept : ℕ) : Type 0 where

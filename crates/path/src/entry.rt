@@ -1,5 +1,5 @@
 // What a path holds of one entry.
-ghost use Rattle.std.specs.Prelude.{◌≡◌, ◌++◌, ◌+◌, ◌^◌, ◌≤◌, ◌<◌, min, length, take, drop};
+ghost use Rattle.std.specs.Prelude.{◌≡◌, ◌++◌, ◌+◌, ◌^◌, ◌≤◌, ◌<◌, length, take, drop};
 ghost use Rattle.spec.specs.Limits.{entry_size, hop_size, max_mtu};
 ghost use Rattle.spec.specs.Octets.{be16};
 ghost use Rattle.spec.specs.Book.{isd_asn_at, as_entry_at};
@@ -8,44 +8,14 @@ ghost use Rattle.output.specs.Write.{written};
 ghost use Rattle.spec.specs.Assembly.{least, mtus_at, hop_of, segment_of};
 ghost use Rattle.spec.specs.Records.{hop_octets};
 ghost use Rattle.path.specs.Edges.{edge_by};
-ghost use Rattle.path.specs.Places.{as_size, id_size, entry_ases, entry_ids, StandsAt, Wrote, Appended};
+ghost use Rattle.path.specs.Places.{as_size, id_size, entry_ases, entry_ids, Wrote, Appended};
 ghost use Rattle.path.specs.Parts.{Hops, link_mtus, ingress_shown, shown_as, as_if, id_if, interfaces_here, entry_bytes, EntryWalked};
 
+use crate::places::PlacedEntry;
 use crate::{places, within};
 use spec::{AsEntry, HopField, PathInterface, PeerEntry, SolutionEdge};
 
-// The ids of the interfaces at an entry, in the path's order; 0 where one is not shown.
-#[derive(Clone, Copy)]
-pub(crate) struct ShownIds {
-    first: u16,
-    second: u16,
-}
-
 // ---- hops
-
-fn units_at(book: &[u8], e: SolutionEdge, m: usize, at: usize) -> u8
-    requires stands_at { StandsAt book.now (edge_by e) m at }
-    requires at_bound { at < 2 ^ 16 }
-    ensures { result ≡ (hop_of (segment_of book.now (edge_by e)) (edge_by e) m).units }
-{
-    if places::is_peer_hop(e, m) {
-        let link = places::link_offset(e, at);
-        return book[link + PeerEntry::HOP];
-    }
-    book[at + AsEntry::UNITS]
-}
-
-// Where the two interface ids of the hop at entry m stand, ingress before egress.
-fn ids_offset(book: &[u8], e: SolutionEdge, m: usize, at: usize) -> usize
-    requires stands_at { StandsAt book.now (edge_by e) m at }
-    requires at_bound { at < 2 ^ 16 }
-    ensures { (be16 book.now result ≡ (hop_of (segment_of book.now (edge_by e)) (edge_by e) m).ingress) × (be16 book.now (result + 2) ≡ (hop_of (segment_of book.now (edge_by e)) (edge_by e) m).egress) × (result + 4 ≤ length book.now) }
-{
-    if places::is_peer_hop(e, m) {
-        return places::link_offset(e, at) + PeerEntry::INGRESS;
-    }
-    at + AsEntry::INGRESS
-}
 
 // An entry's own hop: in the book its units stand after the interfaces. It is put together in a local one, which the compiler moves as a whole.
 fn put_own_hop(book: &[u8], at: usize, out: &mut [u8], to: usize)
@@ -71,53 +41,23 @@ fn put_peer_hop(book: &[u8], from: usize, out: &mut [u8], to: usize)
     within::copy(&r, 0, out, to, HopField::SIZE);
 }
 
-fn put_hop(book: &[u8], e: SolutionEdge, m: usize, at: usize, out: &mut [u8], to: usize) -> usize
-    requires stands_at { StandsAt book.now (edge_by e) m at }
-    requires at_bound { at < 2 ^ 16 }
-    requires hop_size_in_bounds { to + hop_size ≤ length out.old }
-    ensures { Wrote out.old to (entry_bytes book.now (edge_by e) Hops m) out.new result × (result ≤ to + hop_size) }
-{
-    if places::is_peer_hop(e, m) {
-        let from = places::link_offset(e, at) + PeerEntry::HOP;
-        put_peer_hop(book, from, out, to);
-        return to + HopField::SIZE;
-    }
-    put_own_hop(book, at, out, to);
-    to + HopField::SIZE
-}
-
 // ---- interfaces
+
+// The ids of the interfaces at an entry, in the path's order; 0 where one is not shown.
+#[derive(Clone, Copy)]
+pub(crate) struct ShownIds {
+    first: u16,
+    second: u16,
+}
 
 // At a shortcut above the segment's first entry, without a peer, no ingress is shown.
 fn shown_ingress(e: SolutionEdge, m: usize, ingress: u16) -> u16
     ensures { result ≡ ingress_shown (edge_by e) m ingress }
 {
-    if e.peer == 0 {
-        if places::is_inner_shortcut(e, m) {
-            return 0;
-        }
+    if e.peer == 0 && places::is_inner_shortcut(e, m) {
+        return 0;
     }
     ingress
-}
-
-fn shown(book: &[u8], e: SolutionEdge, m: usize, at: usize) -> ShownIds
-    requires stands_at { StandsAt book.now (edge_by e) m at }
-    requires at_bound { at < 2 ^ 16 }
-    ensures { interfaces_here book.now (edge_by e) m ≡ shown_as (as_of (segment_of book.now (edge_by e)) m) result.first ++ shown_as (as_of (segment_of book.now (edge_by e)) m) result.second }
-{
-    let from = ids_offset(book, e, m, at);
-    let ingress = shown_ingress(e, m, within::read16(book, from));
-    let egress = within::read16(book, from + 2);
-    if e.construction {
-        return ShownIds {
-            first: ingress,
-            second: egress,
-        };
-    }
-    ShownIds {
-        first: egress,
-        second: ingress,
-    }
 }
 
 // The AS at an offset of the book. Where no id is shown it is written all the same, and the next one goes over it: the
@@ -148,53 +88,17 @@ fn put_id(ids: &mut [u8], to: usize, id: u16) -> usize
 
 // ---- MTUs
 
-pub const MAX_MTU: u16 = 65535;
-
-fn less(x: u16, y: u16) -> u16
-    ensures { result ≡ min x y }
-{
-    if y < x {
-        return y;
-    }
-    x
-}
-
 // An MTU of 0 says none: then the most that one can be.
 fn or_max(x: u16) -> u16
     ensures { (x ≡ 0 → result ≡ max_mtu) × ((x ≡ 0 → ⊥) → result ≡ x) }
 {
     if x == 0 {
-        return MAX_MTU;
+        return u16::MAX;
     }
     x
 }
 
-// The MTU of the link over which the entry is entered, if it counts, else the most.
-fn link_mtu(book: &[u8], e: SolutionEdge, m: usize, at: usize) -> u16
-    requires stands_at { StandsAt book.now (edge_by e) m at }
-    requires at_bound { at < 2 ^ 16 }
-    ensures { result ≡ least max_mtu (link_mtus (segment_of book.now (edge_by e)) (edge_by e) m) }
-{
-    if places::is_peer_hop(e, m) {
-        return within::read16(book, places::link_offset(e, at) + PeerEntry::MTU);
-    }
-    if places::is_inner_shortcut(e, m) {
-        return MAX_MTU;
-    }
-    or_max(within::read16(book, at + AsEntry::INGRESS_MTU))
-}
-
-// The least of x and the entry's MTUs.
-fn mtu_at(book: &[u8], e: SolutionEdge, m: usize, at: usize, x: u16) -> u16
-    requires stands_at { StandsAt book.now (edge_by e) m at }
-    requires at_bound { at < 2 ^ 16 }
-    ensures { result ≡ least x (mtus_at (segment_of book.now (edge_by e)) (edge_by e) m) }
-{
-    let y = less(x, link_mtu(book, e, m, at));
-    less(y, (within::read32(book, at + AsEntry::MTU) % 65536) as u16)
-}
-
-// ---- one hop
+// ---- one entry
 
 // Where the next hop, AS and id go, each in its buffer, and the least MTU and units so far.
 #[derive(Clone, Copy)]
@@ -206,45 +110,103 @@ pub(crate) struct Walk {
     pub units: u8,
 }
 
-fn fewer(x: u8, y: u8) -> u8
-    ensures { result ≡ min x y }
-{
-    if y < x {
-        return y;
+impl<'a> PlacedEntry<'a> {
+    fn units(&self) -> u8
+        ensures { result ≡ (hop_of (segment_of self.now.book.now (edge_by self.now.edge)) (edge_by self.now.edge) self.now.m).units }
+    {
+        if places::is_peer_hop(self.edge, self.m) {
+            let link = places::link_offset(self.edge, self.at);
+            return self.book[link + PeerEntry::HOP];
+        }
+        self.book[self.at + AsEntry::UNITS]
     }
-    x
-}
 
-// All that a path holds of an entry, at once: entries are gone over once.
-pub(crate) fn put_entry(
-    book: &[u8],
-    e: SolutionEdge,
-    m: usize,
-    at: usize,
-    w: Walk,
-    out: &mut [u8],
-    ases: &mut [u8],
-    ids: &mut [u8],
-) -> Walk
-    requires stands_at { StandsAt book.now (edge_by e) m at }
-    requires at_bound { at < 2 ^ 16 }
-    requires hop_size_in_bounds { (w.hops + hop_size ≤ length out.old) × (w.ases + entry_ases ≤ length ases.old) × (w.ids + entry_ids ≤ length ids.old) }
-    ensures entry_walked { EntryWalked book.now (edge_by e) m out.old out.new ases.old ases.new ids.old ids.new w result }
-    ensures hops_bound { (result.hops ≤ w.hops + hop_size) × (result.ases ≤ w.ases + entry_ases) × (result.ids ≤ w.ids + entry_ids) }
-{
-    let shown = shown(book, e, m, at);
-    let hops = put_hop(book, e, m, at, out, w.hops);
-    let next_as = put_as(book, at, ases, w.ases, shown.first);
-    let end_as = put_as(book, at, ases, next_as, shown.second);
-    let next_id = put_id(ids, w.ids, shown.first);
-    let end_id = put_id(ids, next_id, shown.second);
-    let mtu = mtu_at(book, e, m, at, w.mtu);
-    let units = fewer(w.units, units_at(book, e, m, at));
-    Walk {
-        hops: hops,
-        ases: end_as,
-        ids: end_id,
-        mtu: mtu,
-        units: units,
+    // Where the hop's two interface ids stand, ingress before egress.
+    fn ids_offset(&self) -> usize
+        ensures { (be16 self.now.book.now result ≡ (hop_of (segment_of self.now.book.now (edge_by self.now.edge)) (edge_by self.now.edge) self.now.m).ingress) × (be16 self.now.book.now (result + 2) ≡ (hop_of (segment_of self.now.book.now (edge_by self.now.edge)) (edge_by self.now.edge) self.now.m).egress) × (result + 4 ≤ length self.now.book.now) }
+    {
+        if places::is_peer_hop(self.edge, self.m) {
+            return places::link_offset(self.edge, self.at) + PeerEntry::INGRESS;
+        }
+        self.at + AsEntry::INGRESS
+    }
+
+    fn put_hop(&self, out: &mut [u8], to: usize) -> usize
+        requires { to + hop_size ≤ length out.old }
+        ensures { Wrote out.old to (entry_bytes self.now.book.now (edge_by self.now.edge) Hops self.now.m) out.new result × (result ≤ to + hop_size) }
+    {
+        within::all_bytes(self.book);
+        if places::is_peer_hop(self.edge, self.m) {
+            let from = places::link_offset(self.edge, self.at) + PeerEntry::HOP;
+            put_peer_hop(self.book, from, out, to);
+            return to + HopField::SIZE;
+        }
+        put_own_hop(self.book, self.at, out, to);
+        to + HopField::SIZE
+    }
+
+    fn shown(&self) -> ShownIds
+        ensures { interfaces_here self.now.book.now (edge_by self.now.edge) self.now.m ≡ shown_as (as_of (segment_of self.now.book.now (edge_by self.now.edge)) self.now.m) result.first ++ shown_as (as_of (segment_of self.now.book.now (edge_by self.now.edge)) self.now.m) result.second }
+    {
+        let from = self.ids_offset();
+        let ingress = shown_ingress(self.edge, self.m, within::read16(self.book, from));
+        let egress = within::read16(self.book, from + 2);
+        if self.edge.construction {
+            return ShownIds {
+                first: ingress,
+                second: egress,
+            };
+        }
+        ShownIds {
+            first: egress,
+            second: ingress,
+        }
+    }
+
+    // The MTU of the link over which the entry is entered, if it counts, else the most.
+    fn link_mtu(&self) -> u16
+        ensures { result ≡ least max_mtu (link_mtus (segment_of self.now.book.now (edge_by self.now.edge)) (edge_by self.now.edge) self.now.m) }
+    {
+        if places::is_peer_hop(self.edge, self.m) {
+            return within::read16(
+                self.book,
+                places::link_offset(self.edge, self.at) + PeerEntry::MTU,
+            );
+        }
+        if places::is_inner_shortcut(self.edge, self.m) {
+            return u16::MAX;
+        }
+        or_max(within::read16(self.book, self.at + AsEntry::INGRESS_MTU))
+    }
+
+    // The least of x and the entry's MTUs.
+    fn least_mtu(&self, x: u16) -> u16
+        ensures { result ≡ least x (mtus_at (segment_of self.now.book.now (edge_by self.now.edge)) (edge_by self.now.edge) self.now.m) }
+    {
+        let own = (within::read32(self.book, self.at + AsEntry::MTU) % 65536) as u16;
+        x.min(self.link_mtu()).min(own)
+    }
+
+    // All that a path holds of the entry, at once: entries are gone over once.
+    pub(crate) fn put(&self, w: Walk, out: &mut [u8], ases: &mut [u8], ids: &mut [u8]) -> Walk
+        requires { (w.hops + hop_size ≤ length out.old) × (w.ases + entry_ases ≤ length ases.old) × (w.ids + entry_ids ≤ length ids.old) }
+        ensures entry_walked { EntryWalked self.now.book.now (edge_by self.now.edge) self.now.m out.old out.new ases.old ases.new ids.old ids.new w result }
+        ensures hops_bound { (result.hops ≤ w.hops + hop_size) × (result.ases ≤ w.ases + entry_ases) × (result.ids ≤ w.ids + entry_ids) }
+    {
+        let shown = self.shown();
+        let hops = self.put_hop(out, w.hops);
+        let next_as = put_as(self.book, self.at, ases, w.ases, shown.first);
+        let end_as = put_as(self.book, self.at, ases, next_as, shown.second);
+        let next_id = put_id(ids, w.ids, shown.first);
+        let end_id = put_id(ids, next_id, shown.second);
+        let mtu = self.least_mtu(w.mtu);
+        let units = w.units.min(self.units());
+        Walk {
+            hops,
+            ases: end_as,
+            ids: end_id,
+            mtu,
+            units,
+        }
     }
 }

@@ -11,16 +11,17 @@ mod route_list;
 mod shown;
 mod within;
 
-ghost use Rattle.std.specs.Prelude.{◌≡◌, ◌≤◌, length};
+ghost use Rattle.std.specs.Prelude.{◌≡◌, ◌≤◌, length, Ok};
 ghost use Rattle.spec.specs.Limits.{path_size};
 ghost use Rattle.spec.specs.Answers.{path_answer, assembly};
-ghost use Rattle.graph.specs.Ready.{Ready};
-ghost use Rattle.path.specs.Edges.{edges_in, RecordInBook};
+ghost use Rattle.path.specs.Edges.{edges_in};
+ghost use Rattle.path.specs.Refusing.{zeros_if_refused};
 
 use book::PLACES;
-use graph::Chain;
+use graph::Opened;
+use places::PlacedRecord;
 pub use route_list::routes;
-use spec::{IsdAsn, Path, PathAnswer, PathInterface, Refusal};
+use spec::{IsdAsn, Outcome, Path, PathInterface, Refusal};
 
 // The most bytes of a path's interface ASes, and of their ids.
 pub(crate) const ASES: usize = PathInterface::AS * Path::INTERFACES;
@@ -28,52 +29,70 @@ pub(crate) const ASES: usize = PathInterface::AS * Path::INTERFACES;
 pub(crate) const IDS: usize = PathInterface::ID * Path::INTERFACES;
 
 // The path of a record's first `count` edges, in `out`: its record, or zeros where it is Loop or Bare.
-pub(crate) fn build(
-    book: &[u8],
-    table: &[u16; PLACES],
-    given: &[u8],
-    count: usize,
-    out: &mut [u8],
-) -> PathAnswer
-    requires ready { Ready book.now table.now }
-    requires record_in_book { RecordInBook book.now given.now count }
-    requires path_size_in_bounds { path_size ≤ length out.old }
-    ensures { (result ≡ (path_answer book.now (length out.old) (edges_in given.now count)).0) × (out.new ≡ (path_answer book.now (length out.old) (edges_in given.now count)).1) }
+fn build(record: &PlacedRecord, out: &mut [u8]) -> Outcome
+    requires { path_size ≤ length out.old }
+    ensures { (Ok result ≡ (path_answer record.now.opened.book.now (length out.old) (edges_in record.now.given.now record.now.count)).0) × (out.new ≡ (path_answer record.now.opened.book.now (length out.old) (edges_in record.now.given.now record.now.count)).1) }
 {
     let mut ases = [0u8; ASES];
     let mut ids = [0u8; IDS];
-    let ends = record::put_edges(book, table, given, count, out, &mut ases, &mut ids);
+    let ends = record.put_edges(out, &mut ases, &mut ids);
     let shown = ends.ases / PathInterface::AS;
     if loop_test::is_loop(&ases, 0, shown) {
         output::zero(out, 0);
-        return PathAnswer::Loop;
+        return Outcome::Loop;
     }
     if shown == 0 {
         output::zero(out, 0);
-        return PathAnswer::Bare;
+        return Outcome::Bare;
     }
-    record::put_path(book, table, given, count, out, &ases, &ids, ends);
-    PathAnswer::Path
+    record.put_path(out, &ases, &ids, ends);
+    Outcome::Path
+}
+
+// What `assemble` answers, before the output of a refusal is zeroed.
+fn assembled(
+    src: IsdAsn,
+    dst: IsdAsn,
+    book: &[u8],
+    given: &[u8],
+    out: &mut [u8],
+) -> Result<Outcome, Refusal>
+    ensures { (result, zeros_if_refused result out.new) ≡ assembly book.now src dst given.now (length out.old) }
+{
+    let mut table = [0u16; PLACES];
+    let chain = graph::chain_of(src, dst, book, given, &mut table)?;
+    if out.len() < Path::SIZE {
+        return Err(Refusal::Small);
+    }
+    let Some(count) = chain else {
+        return Err(Refusal::Stranger);
+    };
+    let opened = Opened {
+        book,
+        table: &table,
+    };
+    let record = PlacedRecord {
+        opened,
+        given,
+        count: usize::from(count),
+    };
+    Ok(build(&record, out))
 }
 
 // Assembles the path of the chain from `src` to `dst` that the record `given` is of, in `out`: its record, or
 // zeros where it is Loop or Bare, or a refusal and zeros.
-pub fn assemble(src: IsdAsn, dst: IsdAsn, book: &[u8], given: &[u8], out: &mut [u8]) -> PathAnswer
+pub fn assemble(
+    src: IsdAsn,
+    dst: IsdAsn,
+    book: &[u8],
+    given: &[u8],
+    out: &mut [u8],
+) -> Result<Outcome, Refusal>
     ensures { (result, out.new) ≡ assembly book.now src dst given.now (length out.old) }
 {
-    let mut table = [0u16; PLACES];
-    let chain = graph::chain_of(src, dst, book, given, &mut table);
-    if let Chain::Refused(r) = chain {
+    let answer = assembled(src, dst, book, given, out);
+    if answer.is_err() {
         output::zero(out, 0);
-        return PathAnswer::Refused(r);
     }
-    if out.len() < Path::SIZE {
-        output::zero(out, 0);
-        return PathAnswer::Refused(Refusal::Small);
-    }
-    let Chain::Edges(count) = chain else {
-        output::zero(out, 0);
-        return PathAnswer::Refused(Refusal::Stranger);
-    };
-    build(book, &table, given, count as usize, out)
+    answer
 }

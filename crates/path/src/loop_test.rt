@@ -11,14 +11,10 @@ fn is_among(out: &[u8], at: usize, count: usize, x: u64) -> bool
     requires count_bound { at + 8 * count < 2 ^ 32 }
     ensures { result ≡ ltb 0 (times_in x (numbers_in out.now at count)) }
 {
-    let mut next = at;
-    let mut left = count;
-    while left > 0 {
-        if within::read64(out, next) == x {
+    for k in 0..count {
+        if within::read64(out, at + 8 * k) == x {
             return true;
         }
-        next += 8;
-        left -= 1;
     }
     false
 }
@@ -29,14 +25,10 @@ fn is_repeated(out: &[u8], at: usize, count: usize, x: u64) -> bool
     requires count_bound { at + 8 * count < 2 ^ 32 }
     ensures { result ≡ ltb 1 (times_in x (numbers_in out.now at count)) }
 {
-    let mut next = at;
-    let mut left = count;
-    while left > 0 {
-        if within::read64(out, next) == x {
-            return is_among(out, next + 8, left - 1, x);
+    for k in 0..count {
+        if within::read64(out, at + 8 * k) == x {
+            return is_among(out, at + 8 * k + 8, count - k - 1, x);
         }
-        next += 8;
-        left -= 1;
     }
     false
 }
@@ -71,7 +63,7 @@ fn is_third(out: &[u8], at: usize, count: usize, x: u64, run: usize) -> bool
     is_among(out, at, count, x)
 }
 
-// Some number stands three times among them. Where two in a row are the same, the second needs no search.
+// Some number stands three times among them. Where two in a row are the same, the second needs no search: the step is one or two, so this is no `for`.
 pub(crate) fn is_loop(out: &[u8], at: usize, count: usize) -> bool
     requires count_in_bounds { at + 8 * count ≤ length out.now }
     requires count_bound { at + 8 * count < 2 ^ 32 }

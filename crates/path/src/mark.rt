@@ -1,13 +1,13 @@
 // A short mark of a list of interfaces: equal lists have equal marks, and unequal ones hardly ever.
-ghost use Rattle.std.specs.Prelude.{◌≡◌, ◌+◌, ◌*◌, ◌≤◌, ◌<◌, length};
+ghost use Rattle.std.specs.Prelude.{◌≡◌, ◌*◌, ◌≤◌, ◌<◌, length};
 ghost use Rattle.path.specs.Marking.{prime, weighed, turned, mark_of, both_marks};
 ghost use Rattle.path.specs.Slots.{shown_at, shown_in};
 
+use crate::shown::Interfaces;
 use crate::within;
 use spec::PathInterface;
 
-// 2 ^ 31 - 1.
-const PRIME: u64 = 2147483647;
+const PRIME: u64 = (1 << 31) - 1;
 
 // How many solutions may all have one mark: to compare each with each takes a small part of the time that a call may take.
 const FEW: usize = 128;
@@ -36,17 +36,12 @@ fn fixed_keys() -> Keys {
 fn keys_in(s: &[u8]) -> Keys
     requires { 20 ≤ length s.now }
 {
-    let isd = within::read32(s, 0);
-    let high = within::read32(s, 4);
-    let low = within::read32(s, 8);
-    let id = within::read32(s, 12);
-    let turn = within::read32(s, 16);
     Keys {
-        isd: isd,
-        high: high,
-        low: low,
-        id: id,
-        turn: turn,
+        isd: within::read32(s, 0),
+        high: within::read32(s, 4),
+        low: within::read32(s, 8),
+        id: within::read32(s, 12),
+        turn: within::read32(s, 16),
     }
 }
 
@@ -69,16 +64,7 @@ pub(crate) fn pair_for(book: &[u8], n: usize) -> Pair {
     let digest = sha256::sha256(book);
     let first = keys_in(&digest);
     let second = keys_in(&sha256::sha256(&digest));
-    Pair {
-        first: first,
-        second: second,
-    }
-}
-
-fn wide(x: u16) -> u64
-    ensures { (result ≡ x) × (result < 65536) }
-{
-    x as u64
+    Pair { first, second }
 }
 
 // A part of an interface, or a mark, times its key.
@@ -86,7 +72,7 @@ fn times(x: u64, key: u32) -> u64
     requires { x ≤ prime }
     ensures { (result ≡ x * key) × (result ≤ x * 4294967295) }
 {
-    x * (key as u64)
+    x * u64::from(key)
 }
 
 // ISD, the two halves of the AS number, and the interface's id.
@@ -96,40 +82,36 @@ fn weigh(keys: Keys, local: u64, id: u16) -> u64
     let isd = times(local / 281474976710656, keys.isd);
     let high = times(local / 16777216 % 16777216, keys.high);
     let low = times(local % 16777216, keys.low);
-    let id = times(wide(id), keys.id);
+    let id = times(u64::from(id), keys.id);
     isd + high + low + id
 }
 
 // The mark with the interface at index k.
-fn turn(keys: Keys, mark: u64, ases: &[u8], ids: &[u8], k: usize) -> u64
-    requires { (mark < prime) × (8 * k + 8 ≤ length ases.now) × (2 * k + 2 ≤ length ids.now) }
-    ensures { (result ≡ turned keys mark (shown_at ases.now ids.now k)) × (result < prime) }
+fn turn(keys: Keys, mark: u64, route: &Interfaces, k: usize) -> u64
+    requires { (mark < prime) × (k < route.now.count) }
+    ensures { (result ≡ turned keys mark (shown_at route.now.ases.now route.now.ids.now k)) × (result < prime) }
 {
-    let local = within::read64(ases, PathInterface::AS * k);
-    let id = within::read16(ids, PathInterface::ID * k);
+    let local = within::read64(route.ases, PathInterface::AS * k);
+    let id = within::read16(route.ids, PathInterface::ID * k);
     (times(mark, keys.turn) + weigh(keys, local, id) % PRIME) % PRIME
 }
 
-// The mark of the first `count` interfaces by one set of keys.
-fn mark_of(keys: Keys, ases: &[u8], ids: &[u8], count: usize) -> u64
-    requires { (8 * count ≤ length ases.now) × (2 * count ≤ length ids.now) }
-    ensures { (result ≡ mark_of keys (shown_in ases.now ids.now count)) × (result < prime) }
+// The mark of a route by one set of keys.
+fn mark_of(keys: Keys, route: &Interfaces) -> u64
+    ensures { (result ≡ mark_of keys (shown_in route.now.ases.now route.now.ids.now route.now.count)) × (result < prime) }
 {
     let mut mark: u64 = 0;
-    let mut k: usize = 0;
-    while k < count {
-        mark = turn(keys, mark, ases, ids, k);
-        k += 1;
+    for k in 0..route.count {
+        mark = turn(keys, mark, route, k);
     }
     mark
 }
 
 // By both, in sixteen bits: the low ones of their product.
-pub(crate) fn both_marks(keys: Pair, ases: &[u8], ids: &[u8], count: usize) -> u16
-    requires { (8 * count ≤ length ases.now) × (2 * count ≤ length ids.now) }
-    ensures { result ≡ both_marks keys (shown_in ases.now ids.now count) }
+pub(crate) fn both_marks(keys: Pair, route: &Interfaces) -> u16
+    ensures { result ≡ both_marks keys (shown_in route.now.ases.now route.now.ids.now route.now.count) }
 {
-    let first = mark_of(keys.first, ases, ids, count);
-    let second = mark_of(keys.second, ases, ids, count);
+    let first = mark_of(keys.first, route);
+    let second = mark_of(keys.second, route);
     (first * second % PRIME % 65536) as u16
 }

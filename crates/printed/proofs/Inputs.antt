@@ -14,15 +14,11 @@ use Rattle.sha256.specs.Message.{sha256}
 use Rattle.spec.specs.declared.IsdAsn.{IsdAsn}
 use Rattle.spec.specs.declared.Refusal.{Refusal}
 use Rattle.spec.specs.declared.Refusal.TheVariants.{Cut}
-use Rattle.spec.specs.declared.Verdict.{Verdict}
-use Rattle.spec.specs.declared.Verdict.TheVariants.{Accepted, Refused as RefusedBook}
-use Rattle.spec.specs.declared.ListAnswer.{ListAnswer}
-use Rattle.spec.specs.declared.ListAnswer.TheVariants.{Count, Refused as RefusedList}
+use Rattle.std.specs.Prelude.{Ok, Err, if◌then◌else◌}
+use Rattle.spec.specs.Answers.{ListAnswer, Listed, refused_list, listing, assembly}
+use Rattle.spec.specs.Book.{Verdict, verdict, isd_asn_at}
 use Rattle.spec.specs.Limits.{solution_size, path_size}
-use Rattle.std.specs.Prelude.{if◌then◌else◌}
 use Rattle.spec.specs.Basics.{filter, range}
-use Rattle.spec.specs.Book.{verdict, isd_asn_at}
-use Rattle.spec.specs.Answers.{Listed, refused_list, listing, assembly}
 use Rattle.spec.specs.Printed.{is_path, refused_line}
 use Rattle.spec.proofs.Lists.{range-suc}
 use Rattle.spec.proofs.ChainLaws.{allowed-length}
@@ -51,11 +47,11 @@ slot-part records k =
 -- ---- the list
 
 module _ (input : List ℕ) (bytes : ℕ) where
-  pub listed-short : length input < ends_size → (records : List ℕ) → length records ≡ bytes → (d : List ℕ) → d ≡ zeroed records 0 → (RefusedList Cut, d) ≡ listed input bytes
+  pub listed-short : length input < ends_size → (records : List ℕ) → length records ≡ bytes → (d : List ℕ) → d ≡ zeroed records 0 → (Err Cut, d) ≡ listed input bytes
   unfolding listed refused_list
   listed-short h records e d q =
-      ap (λ l. (RefusedList Cut, l)) (q ∙ zeroed-all records ∙ ap (λ n. replicate n 0) e)
-      ∙ sym (ap (λ t. if t then (RefusedList Cut, replicate bytes 0) else listing sha256 (drop ends_size input) (isd_asn_at input 0) (isd_asn_at input 8) bytes) (lt-ltb (length input) ends_size h))
+      ap (λ l. (Err Cut, l)) (q ∙ zeroed-all records ∙ ap (λ n. replicate n 0) e)
+      ∙ sym (ap (λ t. if t then (Err Cut, replicate bytes 0) else listing sha256 (drop ends_size input) (isd_asn_at input 0) (isd_asn_at input 8) bytes) (lt-ltb (length input) ends_size h))
 
   pub listed-long : ends_size ≤ length input → (src dst : IsdAsn) → src ≡ isd_asn_at input 0 → dst ≡ isd_asn_at input 8 → (b : List ℕ) → b ≡ drop ends_size input
       → (x : Listed) → x ≡ listing sha256 b src dst bytes → x ≡ listed input bytes
@@ -108,8 +104,8 @@ module _ (input records : List ℕ) where
   module _ (k : ℕ) where
     none-short : (v : Verdict) → verdict (drop ends_size input) ≡ v → length (record_at records k) < solution_size → slot_text input records k ≡ []
     unfolding slot_text
-    none-short (RefusedBook r) q h = text-refused (drop ends_size input) (isd_asn_at input 0) (isd_asn_at input 8) (k + 1) r q (record_at records k)
-    none-short Accepted q h =
+    none-short (Err r) q h = text-refused (drop ends_size input) (isd_asn_at input 0) (isd_asn_at input 8) (k + 1) r q (record_at records k)
+    none-short (Ok tt) q h =
         text-stranger (drop ends_size input) (isd_asn_at input 0) (isd_asn_at input 8) (k + 1) q (record_at records k)
         (λ c p e. omega (arith, ap length e, solution-length c (allowed-length c p.kinds)))
 
@@ -117,7 +113,7 @@ module _ (input records : List ℕ) where
     unfolding slot_text
     none-cut h = text-refused (drop ends_size input) (isd_asn_at input 0) (isd_asn_at input 8) (k + 1) Cut refused (record_at records k)
       where
-        refused : verdict (drop ends_size input) ≡ RefusedBook Cut
+        refused : verdict (drop ends_size input) ≡ Err Cut
         refused = ap verdict (drop_of_length-le input {i = ends_size} (omega arith)) ∙ unfold verdict in refl
 
     pub wrote-cut : (d : List ℕ) → length input < ends_size → Wrote d 0 (slot_text input records k) d 0
@@ -145,10 +141,10 @@ module _ (input records : List ℕ) where
 -- ---- the first line
 
 module _ (input : List ℕ) (bytes : ℕ) (answer : ListAnswer) (records : List ℕ) (q : (answer, records) ≡ listed input bytes) where
-  pub count_room : (n : ℕ) → answer ≡ Count n → (ends_size ≤ length input) × (solution_size * n ≤ bytes)
+  pub count_room : (n : ℕ) → answer ≡ Ok n → (ends_size ≤ length input) × (solution_size * n ≤ bytes)
   count_room n e = counted-room input bytes n (sym (ap (λ (x : Listed). x.0) q) ∙ e)
 
-  pub opened-counts : (n : ℕ) → answer ≡ Count n → (paths : ℕ) → paths ≡ paths_to input records n
+  pub opened-counts : (n : ℕ) → answer ≡ Ok n → (paths : ℕ) → paths ≡ paths_to input records n
       → {d d' : List ℕ} {r : ℕ} → Wrote d 0 (counts_line n paths) d' r × (r ≤ first_line_size) → Opened input bytes records d d' (record { length = r; solutions = n })
   unfolding first_line
   opened-counts n e paths p w =
@@ -162,7 +158,7 @@ module _ (input : List ℕ) (bytes : ℕ) (answer : ListAnswer) (records : List 
         short = w.1;
       }
 
-  pub opened-refused : (s : Refusal) → answer ≡ RefusedList s
+  pub opened-refused : (s : Refusal) → answer ≡ Err s
       → {d d' : List ℕ} {r : ℕ} → Wrote d 0 (refused_line s) d' r × (r ≤ first_line_size) → Opened input bytes records d d' (record { length = r; solutions = 0 })
   unfolding first_line
   opened-refused s e w =

@@ -5,8 +5,7 @@ use native.Mathlib.Decide.{dec_le}
 use native.Mathlib.Omega.{arith}
 use mathlib.Core.Path.{◌≡◌, refl, sym, ap, ap₂, ◌∙◌}
 use mathlib.Core.Bool.{Bool, true, false}
-use mathlib.Core.List.Memᴰ.{head}
-use mathlib.Core.List.Memᴰ.{tail}
+use mathlib.Core.List.Memᴰ.{head, tail}
 use mathlib.Core.List.{List, [], ◌∷◌, ◌++◌, map, flat_map, append-nil, Memᴰ as Mem, head-eq_of_cons-eq, tail-eq_of_cons-eq}
 use lib.ListN.{length, take, drop, replicate, length-drop}
 use lib.Seq.{take_all, length-take-le}
@@ -16,18 +15,14 @@ use Rattle.sha256.specs.Message.{sha256}
 use Rattle.spec.specs.declared.IsdAsn.{IsdAsn}
 use Rattle.spec.specs.declared.Edge.{Edge}
 use Rattle.spec.specs.declared.Refusal.TheVariants.{Cut, Oversize, Full}
-use Rattle.spec.specs.declared.Verdict.{Verdict}
-use Rattle.spec.specs.declared.Verdict.TheVariants.{Accepted, Refused as RefusedBook}
-use Rattle.spec.specs.declared.ListAnswer.{ListAnswer}
-use Rattle.spec.specs.declared.ListAnswer.TheVariants.{Count, Refused as RefusedList}
+use Rattle.std.specs.Prelude.{Ok, Err, if◌then◌else◌}
+use Rattle.spec.specs.Answers.{ListAnswer, Listed, refused_list, listing_of, listing_on, listing, assembly}
+use Rattle.spec.specs.Book.{Verdict, verdict, isd_asn_at}
 use Rattle.spec.specs.Limits.{max_book, max_slots, solution_size, path_size}
-use Rattle.std.specs.Prelude.{if◌then◌else◌}
 use Rattle.spec.specs.Basics.{filter, range, padded}
-use Rattle.spec.specs.Book.{verdict, isd_asn_at}
 use Rattle.spec.specs.Chains.{IsChain}
 use Rattle.spec.specs.Order.{solutions}
 use Rattle.spec.specs.Records.{solution_octets, slots}
-use Rattle.spec.specs.Answers.{Listed, refused_list, listing_of, listing_on, listing, assembly}
 use Rattle.spec.specs.Printed.{item, newline, solutions_lines, is_path, assembles, refused_line, printed_on, printed}
 use Rattle.spec.proofs.ChainLaws.{allowed-length}
 use Rattle.spec.proofs.OnceLaws.{solutions-sound}
@@ -56,7 +51,7 @@ module _ (input : List ℕ) where
   abbrev full : ℕ
   full = max_slots * solution_size
 
-  lines-joined : verdict (drop ends_size input) ≡ Accepted → (records : List ℕ) (cs : List (List Edge))
+  lines-joined : verdict (drop ends_size input) ≡ Ok tt → (records : List ℕ) (cs : List (List Edge))
       → ((c : List Edge) → Mem c cs → IsChain (drop ends_size input) (isd_asn_at input 0) (isd_asn_at input 8) c) → (i : ℕ)
       → map (record_at records) (range i (length cs)) ≡ map solution_octets cs
       → flat_map (slot_text input records) (range i (length cs)) ≡ solutions_lines (drop ends_size input) (i + 1) cs
@@ -95,21 +90,21 @@ module _ (input : List ℕ) where
 
   -- what listing leaves where it counts
   record Counted (bytes n : ℕ) : Type 0 where
-    ok : verdict (drop ends_size input) ≡ Accepted
+    ok : verdict (drop ends_size input) ≡ Ok tt
     room : solution_size * n ≤ bytes
     count : n ≡ length (solutions sha256 (drop ends_size input) (isd_asn_at input 0) (isd_asn_at input 8))
     records : (listing sha256 (drop ends_size input) (isd_asn_at input 0) (isd_asn_at input 8) bytes).1
         ≡ padded bytes (flat_map solution_octets (solutions sha256 (drop ends_size input) (isd_asn_at input 0) (isd_asn_at input 8)))
 
-  counted : (bytes n : ℕ) → (listing sha256 (drop ends_size input) (isd_asn_at input 0) (isd_asn_at input 8) bytes).0 ≡ Count n → Counted bytes n
+  counted : (bytes n : ℕ) → (listing sha256 (drop ends_size input) (isd_asn_at input 0) (isd_asn_at input 8) bytes).0 ≡ Ok n → Counted bytes n
   unfolding listing listing_of refused_list
   counted bytes n q = on (verdict book) refl q
     where
       listed_by : Bool → Listed
-      listed_by t = if t then (RefusedList Full, replicate bytes 0) else (Count (length found), padded bytes (flat_map solution_octets found))
+      listed_by t = if t then (Err Full, replicate bytes 0) else (Ok (length found), padded bytes (flat_map solution_octets found))
 
-      of : verdict book ≡ Accepted → (t : Bool) → ltb (slots bytes) (length found) ≡ t → listing sha256 book src dst bytes ≡ listed_by t
-          → (listed_by t).0 ≡ Count n → Counted bytes n
+      of : verdict book ≡ Ok tt → (t : Bool) → ltb (slots bytes) (length found) ≡ t → listing sha256 book src dst bytes ≡ listed_by t
+          → (listed_by t).0 ≡ Ok n → Counted bytes n
       of ok true l e p = let z : ◌≡◌ {A = ℕ} 0 1 = cc in absurd (omega arith)
       of ok false l e p =
           let c : n ≡ length found = cc in
@@ -120,9 +115,9 @@ module _ (input : List ℕ) where
             records = ap (λ (x : Listed). x.1) e;
           }
 
-      on : (v : Verdict) → verdict book ≡ v → (listing_on v bytes found).0 ≡ Count n → Counted bytes n
-      on (RefusedBook s) e p = let z : ◌≡◌ {A = ℕ} 0 1 = cc in absurd (omega arith)
-      on Accepted e p = of e (ltb (slots bytes) (length found)) refl (ap (λ v. listing_on v bytes found) e) p
+      on : (v : Verdict) → verdict book ≡ v → (listing_on v bytes found).0 ≡ Ok n → Counted bytes n
+      on (Err s) e p = let z : ◌≡◌ {A = ℕ} 0 1 = cc in absurd (omega arith)
+      on (Ok tt) e p = of e (ltb (slots bytes) (length found)) refl (ap (λ v. listing_on v bytes found) e) p
 
   module _ (enough : ends_size ≤ length input) where
     listed-is : (bytes : ℕ) → listed input bytes ≡ listing sha256 (drop ends_size input) (isd_asn_at input 0) (isd_asn_at input 8) bytes
@@ -133,9 +128,9 @@ module _ (input : List ℕ) where
     by_answer : (a : ListAnswer) (records : List ℕ) → listing sha256 (drop ends_size input) (isd_asn_at input 0) (isd_asn_at input 8) (max_slots * solution_size) ≡ (a, records)
         → first_by input a records ++ flat_map (slot_text input records) (range 0 (count_of a)) ≡ printed sha256 input
     unfolding range flat_map padded counts_line
-    by_answer (RefusedList r) records q =
+    by_answer (Err r) records q =
         append-nil (refused_line r) ∙ sym (printed-refused sha256 input enough r (ap (λ (x : Listed). x.0) q))
-    by_answer (Count n) records q =
+    by_answer (Ok n) records q =
         let w = counted full n (ap (λ (x : Listed). x.0) q) in
         let chain : (c : List Edge) → Mem c found → IsChain book src dst c = λ c m. solutions-sound sha256 book src dst c m in
         let held : map (record_at records) (range 0 (length found)) ≡ map solution_octets found =
@@ -147,17 +142,17 @@ module _ (input : List ℕ) where
         ∙ sym (printed-count sha256 input enough n (ap (λ (x : Listed). x.0) q))
 
   -- where listing counts, the input has its ends, and the records fit
-  pub counted-room : (bytes n : ℕ) → (listed input bytes).0 ≡ Count n → (ends_size ≤ length input) × (solution_size * n ≤ bytes)
+  pub counted-room : (bytes n : ℕ) → (listed input bytes).0 ≡ Ok n → (ends_size ≤ length input) × (solution_size * n ≤ bytes)
   unfolding listed refused_list
   counted-room bytes n q = go (dec_le ends_size (length input))
     where
       answered : Bool → ListAnswer
-      answered t = (if t then (RefusedList Cut, replicate bytes 0) else listing sha256 book src dst bytes).0
+      answered t = (if t then (Err Cut, replicate bytes 0) else listing sha256 book src dst bytes).0
 
       go : Dec (ends_size ≤ length input) → (ends_size ≤ length input) × (solution_size * n ≤ bytes)
       go (yes h) = (h, (counted bytes n (sym (ap answered (le-ltb (length input) ends_size h)) ∙ q)).room)
       go (no h) =
-          let e : RefusedList Cut ≡ Count n = sym (ap answered (lt-ltb (length input) ends_size (omega arith))) ∙ q in
+          let e : Err Cut ≡ Ok n = sym (ap answered (lt-ltb (length input) ends_size (omega arith))) ∙ q in
           let z : ◌≡◌ {A = ℕ} 0 1 = cc in absurd (omega arith)
 
   abbrev joined : Listed → List ℕ
@@ -166,7 +161,7 @@ module _ (input : List ℕ) where
   pieces-short : length input < ends_size → pieces input (max_slots * solution_size) ≡ refused_line Cut
   unfolding pieces first_line listed refused_list range flat_map
   pieces-short h =
-      ap (λ t. joined (if t then (RefusedList Cut, replicate full 0) else listing sha256 book src dst full)) (lt-ltb (length input) ends_size h)
+      ap (λ t. joined (if t then (Err Cut, replicate full 0) else listing sha256 book src dst full)) (lt-ltb (length input) ends_size h)
       ∙ append-nil (refused_line Cut)
 
   pieces-enough : ends_size ≤ length input → pieces input (max_slots * solution_size) ≡ printed sha256 input
@@ -182,7 +177,7 @@ module _ (input : List ℕ) where
 
 -- ---- a long input
 
-oversize : (b : List ℕ) → max_book < length b → verdict b ≡ RefusedBook Oversize
+oversize : (b : List ℕ) → max_book < length b → verdict b ≡ Err Oversize
 unfolding verdict
 oversize b h = rw (lt-ltb max_book (length b) h)
 

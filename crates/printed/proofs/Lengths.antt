@@ -12,13 +12,12 @@ use Rattle.spec.specs.declared.IsdAsn.{IsdAsn}
 use Rattle.spec.specs.declared.Edge.{Edge}
 use Rattle.spec.specs.declared.InfoField.{InfoField}
 use Rattle.spec.specs.declared.PathInterface.{PathInterface}
-use Rattle.spec.specs.declared.Verdict.{Verdict}
-use Rattle.spec.specs.declared.Verdict.TheVariants.{Accepted, Refused as RefusedBook}
-use Rattle.spec.specs.declared.PathAnswer.{PathAnswer}
-use Rattle.spec.specs.declared.PathAnswer.TheVariants.{Path, Loop, Bare, Refused as RefusedPath}
+use Rattle.std.specs.Prelude.{Ok, Err}
+use Rattle.spec.specs.Answers.{PathAnswer}
+use Rattle.spec.specs.Book.{Verdict, verdict}
+use Rattle.spec.specs.declared.Outcome.TheVariants.{Path, Loop, Bare}
 use Rattle.spec.specs.Limits.{max_edges, max_entries}
 use Rattle.spec.specs.Octets.{Bytes}
-use Rattle.spec.specs.Book.{verdict}
 use Rattle.spec.specs.Chains.{IsChain, chains}
 use Rattle.spec.specs.Order.{cost}
 use Rattle.spec.specs.Assembly.{hop_count, segment_of, info_on, CombinedPath, combined_path, outcome}
@@ -79,7 +78,7 @@ interface-most i g =
 
 -- ---- a solution
 
-module _ (b : List ℕ) (bytes : Bytes b) (src dst : IsdAsn) (ok : verdict b ≡ Accepted) (c : List Edge) (h : IsChain b src dst c) where
+module _ (b : List ℕ) (bytes : Bytes b) (src dst : IsdAsn) (ok : verdict b ≡ Ok tt) (c : List Edge) (h : IsChain b src dst c) where
   abbrev p : CombinedPath
   p = combined_path b c
 
@@ -115,7 +114,7 @@ module _ (b : List ℕ) (bytes : Bytes b) (src dst : IsdAsn) (ok : verdict b ≡
 
   lines-most : (number : ℕ) → number < 10 ^ 20 → length (solution_lines b number c) ≤ solution_text_size
   unfolding solution_lines outcome_lines ascii newline
-  lines-most number n = go (outcome p)
+  lines-most number n = go (Ok (outcome p))
     where
       start : List ℕ
       start = decimal number ++ item " cost " (cost c) ++ item " segments " (length c)
@@ -132,10 +131,10 @@ module _ (b : List ℕ) (bytes : Bytes b) (src dst : IsdAsn) (ok : verdict b ≡
           )
 
       go : (o : PathAnswer) → length (start ++ lines_by o p) ≤ solution_text_size
-      go Path = omega (arith, start-most, path-most, length-append start (path_lines p))
-      go Loop = omega (arith, start-most, length-append start (ascii " loop" ++ newline))
-      go Bare = omega (arith, start-most, length-append start (ascii " bare" ++ newline))
-      go (RefusedPath r) = omega (arith, start-most, length-append start [])
+      go (Ok Path) = omega (arith, start-most, path-most, length-append start (path_lines p))
+      go (Ok Loop) = omega (arith, start-most, length-append start (ascii " loop" ++ newline))
+      go (Ok Bare) = omega (arith, start-most, length-append start (ascii " bare" ++ newline))
+      go (Err r) = omega (arith, start-most, length-append start [])
 
 pub text-most : (b : List ℕ) → Bytes b → (src dst : IsdAsn) (given : List ℕ) (number : ℕ) → number < 10 ^ 20
     → length (solution_text b src dst given number) ≤ solution_text_size
@@ -144,7 +143,7 @@ text-most b bytes src dst given number n = on (verdict b) refl
     none-most : solution_text b src dst given number ≡ [] → length (solution_text b src dst given number) ≤ solution_text_size
     none-most q = subst (λ l. length l ≤ solution_text_size) (sym q) zero-le
 
-    of : verdict b ≡ Accepted
+    of : verdict b ≡ Ok tt
         → ((c : List Edge) × Mem c (chains b src dst) × (given ≡ solution_octets c)) ⊎ ((c : List Edge) → Mem c (chains b src dst) → given ≡ solution_octets c → ⊥)
         → length (solution_text b src dst given number) ≤ solution_text_size
     of ok (inl w) =
@@ -156,5 +155,5 @@ text-most b bytes src dst given number n = on (verdict b) refl
     of ok (inr none) = none-most (text-stranger b src dst number ok given (λ c h. none c (chains-complete b src dst c h)))
 
     on : (v : Verdict) → verdict b ≡ v → length (solution_text b src dst given number) ≤ solution_text_size
-    on Accepted ok = of ok (record_of_lem given (chains b src dst))
-    on (RefusedBook r) q = none-most (text-refused b src dst number r q given)
+    on (Ok tt) ok = of ok (record_of_lem given (chains b src dst))
+    on (Err r) q = none-most (text-refused b src dst number r q given)

@@ -1,15 +1,27 @@
 -- Lines one after the other.
 -- Assumes nothing.
 use Prim.Native.Nat.{ℕ, ◌+◌}
-use mathlib.Core.Path.{◌≡◌, sym, ap}
+use mathlib.Core.Path.{◌≡◌, refl, sym, ap}
+use mathlib.Core.Bool.{Bool, true, false}
+use Rattle.std.specs.Int.{from_bool}
 use mathlib.Core.List.{List, ◌++◌, flat_map}
 use Rattle.spec.specs.declared.Path.{Path}
 use Rattle.spec.specs.Basics.{range}
-use Rattle.spec.specs.Records.{path_head_in}
+use Rattle.spec.specs.Records.{bit, path_head_in}
+use Rattle.spec.specs.Printed.{decimal}
 use Rattle.spec.proofs.Lists.{flat-range-last}
 use Rattle.path.specs.Places.{Wrote}
 use Rattle.path.proofs.Writes.{wrote_none, wrote-join, wrote_as}
 use Rattle.printed.specs.Lines.{fields_line, info_text, interface_text, lines_to, path_text}
+
+-- a word and the number that another is
+pub item-as : (word : List ℕ) {n m : ℕ} → n ≡ m → {d : List ℕ} {at : ℕ} {d' : List ℕ} {r : ℕ} → Wrote d at (word ++ decimal n) d' r → Wrote d at (word ++ decimal m) d' r
+item-as word q w = wrote_as (ap (λ n. word ++ decimal n) q) w
+
+pub bit-from : (t : Bool) → from_bool t ≡ bit t
+unfolding bit
+bit-from true = refl
+bit-from false = refl
 
 module _ (line : ℕ → List ℕ) where
   pub lines_none : (d : List ℕ) (at : ℕ) → Wrote d at (lines_to line 0) d at

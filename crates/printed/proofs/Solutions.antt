@@ -5,10 +5,7 @@ use native.Mathlib.Nat.{le_refl}
 use mathlib.Core.Path.{◌≡◌, refl, sym, ap, ap₂, ◌∙◌, subst}
 use mathlib.Core.Logic.{◌⊎◌, inl, inr}
 use mathlib.Core.Bool.{Bool, true, false}
-use mathlib.Core.List.Memᴰ.{cases_cons}
-use mathlib.Core.List.Memᴰ.{head}
-use mathlib.Core.List.Memᴰ.{not-nil}
-use mathlib.Core.List.Memᴰ.{tail}
+use mathlib.Core.List.Memᴰ.{cases_cons, head, not-nil, tail}
 use mathlib.Core.List.{List, [], ◌∷◌, ◌++◌, flat_map, Memᴰ as Mem}
 use lib.ListN.{length}
 use Rattle.spec.specs.declared.IsdAsn.{IsdAsn}
@@ -16,21 +13,19 @@ use Rattle.spec.specs.declared.Edge.{Edge}
 use Rattle.spec.specs.declared.Path.{Path as PathHead}
 use Rattle.spec.specs.declared.Solution.{Solution}
 use Rattle.spec.specs.declared.Refusal.{Refusal}
-use Rattle.spec.specs.declared.Verdict.{Verdict}
-use Rattle.spec.specs.declared.Verdict.TheVariants.{Accepted, Refused as RefusedBook}
-use Rattle.spec.specs.declared.PathAnswer.{PathAnswer}
-use Rattle.spec.specs.declared.PathAnswer.TheVariants.{Path, Loop, Bare, Refused as RefusedPath}
+use Rattle.std.specs.Prelude.{Ok, Err, if◌then◌else◌}
+use Rattle.spec.specs.Answers.{PathAnswer, Assembled, refused_path, output_of, path_answer, assembly}
+use Rattle.spec.specs.Book.{Verdict, verdict}
+use Rattle.spec.specs.declared.Outcome.{Outcome}
+use Rattle.spec.specs.declared.Outcome.TheVariants.{Path, Loop, Bare}
 use Rattle.spec.specs.Limits.{path_size}
-use Rattle.std.specs.Prelude.{if◌then◌else◌}
 use Rattle.spec.specs.Basics.{range, same_list, padded}
 use Rattle.spec.specs.Octets.{Bytes}
-use Rattle.spec.specs.Book.{verdict}
 use Rattle.spec.specs.Chains.{IsChain, chains}
 use Rattle.spec.specs.Order.{cost}
 use Rattle.spec.specs.Assembly.{combined_path, is_loop, is_bare, outcome}
 use Rattle.spec.specs.Records.{solution_octets, solution_of, path_head, path_octets, path_head_in, record_interface, interfaces_in}
 use Rattle.spec.specs.Router.{record_info, infos_in}
-use Rattle.spec.specs.Answers.{Assembled, refused_path, output_of, path_answer, assembly}
 use Rattle.spec.specs.Printed.{ascii, decimal, item, newline, info_line, interface_line, path_lines, lines_by, outcome_lines, solution_lines}
 use Rattle.spec.proofs.Lists.{flat-map}
 use Rattle.spec.proofs.Membership.{not-both}
@@ -73,20 +68,20 @@ module _ (b : List ℕ) (src dst : IsdAsn) (number : ℕ) where
       go ih true q = absurd (none d (head refl) (same_list-eq _ _ q))
       go ih false q = ih
 
-  pub text-chain : verdict b ≡ Accepted → (c : List Edge) → IsChain b src dst c → solution_text b src dst (solution_octets c) number ≡ solution_lines b number c
+  pub text-chain : verdict b ≡ Ok tt → (c : List Edge) → IsChain b src dst c → solution_text b src dst (solution_octets c) number ≡ solution_lines b number c
   unfolding solution_text
   text-chain ok c h =
       ap (λ v. lines_on v b number (solution_octets c) (chains b src dst)) ok
       ∙ found-lines c h (chains b src dst) (chains-sound b src dst) (chains-complete b src dst c h)
 
-  pub text-stranger : verdict b ≡ Accepted → (given : List ℕ) → ((c : List Edge) → IsChain b src dst c → given ≡ solution_octets c → ⊥)
+  pub text-stranger : verdict b ≡ Ok tt → (given : List ℕ) → ((c : List Edge) → IsChain b src dst c → given ≡ solution_octets c → ⊥)
       → solution_text b src dst given number ≡ []
   unfolding solution_text
   text-stranger ok given none =
       ap (λ v. lines_on v b number given (chains b src dst)) ok
       ∙ strange-lines given (chains b src dst) (λ c m. none c (chains-sound b src dst c m))
 
-  pub text-refused : (r : Refusal) → verdict b ≡ RefusedBook r → (given : List ℕ) → solution_text b src dst given number ≡ []
+  pub text-refused : (r : Refusal) → verdict b ≡ Err r → (given : List ℕ) → solution_text b src dst given number ≡ []
   unfolding solution_text
   text-refused r q given = ap (λ v. lines_on v b number given (chains b src dst)) q
 
@@ -133,22 +128,22 @@ module _ (b : List ℕ) (c : List Edge) (n : ℕ) (read : PathRead b c n) where
 -- ---- from assembly's answer
 
 module _ (b : List ℕ) (bytes : Bytes b) (src dst : IsdAsn) (number : ℕ) where
-  module _ (ok : verdict b ≡ Accepted) (c : List Edge) (h : IsChain b src dst c) where
+  module _ (ok : verdict b ≡ Ok tt) (c : List Edge) (h : IsChain b src dst c) where
     start-text : start_text (solution_octets c) number ≡ decimal number ++ item " cost " (cost c) ++ item " segments " (length c)
     unfolding start_text solution_of
     start-text =
         let s = chain-bounds b bytes (accepted b ok) src dst c h in
         ap (λ (x : Solution). decimal number ++ item " cost " x.cost ++ item " segments " x.count) (solution-back c s.count s.cost)
 
-    chain-text : solution_lines b number c ≡ text_by (outcome (combined_path b c)) (output_of (outcome (combined_path b c)) path_size (combined_path b c)) (solution_octets c) number
+    chain-text : solution_lines b number c ≡ text_by (Ok (outcome (combined_path b c))) (output_of (outcome (combined_path b c)) path_size (combined_path b c)) (solution_octets c) number
     unfolding solution_lines outcome_lines outcome
     chain-text = go (is_loop (combined_path b c).interfaces) (is_bare (combined_path b c).interfaces)
       where
-        by : Bool → Bool → PathAnswer
+        by : Bool → Bool → Outcome
         by l e = if l then Loop else if e then Bare else Path
 
-        go : (l e : Bool) → decimal number ++ item " cost " (cost c) ++ item " segments " (length c) ++ lines_by (by l e) (combined_path b c)
-            ≡ text_by (by l e) (output_of (by l e) path_size (combined_path b c)) (solution_octets c) number
+        go : (l e : Bool) → decimal number ++ item " cost " (cost c) ++ item " segments " (length c) ++ lines_by (Ok (by l e)) (combined_path b c)
+            ≡ text_by (Ok (by l e)) (output_of (by l e) path_size (combined_path b c)) (solution_octets c) number
         go true e = ap (λ l. l ++ (ascii " loop" ++ newline)) (sym start-text)
         go false true = ap (λ l. l ++ (ascii " bare" ++ newline)) (sym start-text)
         go false false = ap₂ (λ (x : List ℕ) y. x ++ y) (sym start-text) (sym (path-text b c path_size (path-read b bytes c path_size)))
@@ -160,7 +155,7 @@ module _ (b : List ℕ) (bytes : Bytes b) (src dst : IsdAsn) (number : ℕ) wher
   unfolding refused_path path_answer
   solution-text given = on (verdict b) refl
     where
-      of : verdict b ≡ Accepted
+      of : verdict b ≡ Ok tt
           → ((c : List Edge) × Mem c (chains b src dst) × (given ≡ solution_octets c)) ⊎ ((c : List Edge) → Mem c (chains b src dst) → given ≡ solution_octets c → ⊥)
           → solution_text b src dst given number ≡ text_by (answer given).0 (answer given).1 given number
       of ok (inl w) =
@@ -175,24 +170,24 @@ module _ (b : List ℕ) (bytes : Bytes b) (src dst : IsdAsn) (number : ℕ) wher
           (assembly-stranger b src dst path_size ok (le_refl path_size) given (λ c h. none c (chains-complete b src dst c h))))
 
       on : (v : Verdict) → verdict b ≡ v → solution_text b src dst given number ≡ text_by (answer given).0 (answer given).1 given number
-      on Accepted ok = of ok (record_of_lem given (chains b src dst))
-      on (RefusedBook r) q =
+      on (Ok tt) ok = of ok (record_of_lem given (chains b src dst))
+      on (Err r) q =
           text-refused b src dst number r q given
           ∙ sym (ap (λ (a : Assembled). text_by a.0 a.1 given number) (assembly-refused b src dst path_size given r q))
 
 -- ---- what the code leaves, in the terms of the contracts
 
 module _ (answer : PathAnswer) (p given : List ℕ) (number : ℕ) {d : List ℕ} {d' : List ℕ} {at : ℕ} {d'' : List ℕ} {r : ℕ} where
-  pub wrote-path : answer ≡ Path → Wrote d 0 (start_text given number) d' at → Wrote d' at (path_text p) d'' r → Wrote d 0 (text_by answer p given number) d'' r
+  pub wrote-path : answer ≡ Ok Path → Wrote d 0 (start_text given number) d' at → Wrote d' at (path_text p) d'' r → Wrote d 0 (text_by answer p given number) d'' r
   wrote-path q v w = wrote_as (ap (λ a. text_by a p given number) (sym q)) (wrote-join v w)
 
-  pub wrote-loop : answer ≡ Loop → Wrote d 0 (start_text given number) d' at → Wrote d' at (ascii " loop" ++ newline) d'' r → Wrote d 0 (text_by answer p given number) d'' r
+  pub wrote-loop : answer ≡ Ok Loop → Wrote d 0 (start_text given number) d' at → Wrote d' at (ascii " loop" ++ newline) d'' r → Wrote d 0 (text_by answer p given number) d'' r
   wrote-loop q v w = wrote_as (ap (λ a. text_by a p given number) (sym q)) (wrote-join v w)
 
-  pub wrote-bare : answer ≡ Bare → Wrote d 0 (start_text given number) d' at → Wrote d' at (ascii " bare" ++ newline) d'' r → Wrote d 0 (text_by answer p given number) d'' r
+  pub wrote-bare : answer ≡ Ok Bare → Wrote d 0 (start_text given number) d' at → Wrote d' at (ascii " bare" ++ newline) d'' r → Wrote d 0 (text_by answer p given number) d'' r
   wrote-bare q v w = wrote_as (ap (λ a. text_by a p given number) (sym q)) (wrote-join v w)
 
-pub wrote-refused : (answer : PathAnswer) (p given : List ℕ) (number : ℕ) (d : List ℕ) (r : Refusal) → answer ≡ RefusedPath r → Wrote d 0 (text_by answer p given number) d 0
+pub wrote-refused : (answer : PathAnswer) (p given : List ℕ) (number : ℕ) (d : List ℕ) (r : Refusal) → answer ≡ Err r → Wrote d 0 (text_by answer p given number) d 0
 wrote-refused answer p given number d r q = wrote_as (ap (λ a. text_by a p given number) (sym q)) (wrote_none d 0)
 
 pub wrote-solution : (b : List ℕ) → Bytes b → (src dst : IsdAsn) (given : List ℕ) (number n : ℕ) (answer : PathAnswer) (p : List ℕ)

@@ -1,24 +1,19 @@
 -- The pieces of a printed list: its first line, and the lines of each solution. `proofs/Joined` says that, one after the other, they
 -- are the list.
 -- Assumes nothing.
-use Rattle.std.specs.Prelude.{ℕ, ◌+◌, ◌*◌, Bool, length, drop, ltb, if◌then◌else◌}
+use Rattle.std.specs.Prelude.{ℕ, ◌+◌, ◌*◌, Bool, length, drop, ltb, if◌then◌else◌, Ok, Err}
 use mathlib.Core.List.{List, [], ◌∷◌, ◌++◌, flat_map}
 use Rattle.sha256.specs.Message.{sha256}
 use Rattle.spec.specs.declared.IsdAsn.{IsdAsn}
 use Rattle.spec.specs.declared.Edge.{Edge}
 use Rattle.spec.specs.declared.Refusal.TheVariants.{Cut}
-use Rattle.spec.specs.declared.Verdict.{Verdict}
-use Rattle.spec.specs.declared.Verdict.TheVariants.{Accepted, Refused as RefusedBook}
-use Rattle.spec.specs.declared.PathAnswer.{PathAnswer}
-use Rattle.spec.specs.declared.PathAnswer.TheVariants.{Path, Loop, Bare, Refused as RefusedPath}
-use Rattle.spec.specs.declared.ListAnswer.{ListAnswer}
-use Rattle.spec.specs.declared.ListAnswer.TheVariants.{Count, Refused as RefusedList}
+use Rattle.spec.specs.Answers.{ListAnswer, PathAnswer, Listed, refused_list, listing, assembly}
+use Rattle.spec.specs.Book.{Verdict, verdict, isd_asn_at}
+use Rattle.spec.specs.declared.Outcome.TheVariants.{Path, Loop, Bare}
 use Rattle.spec.specs.Limits.{max_edges, max_entries, path_size}
 use Rattle.spec.specs.Basics.{filter, range, same_list}
-use Rattle.spec.specs.Book.{verdict, isd_asn_at}
 use Rattle.spec.specs.Chains.{chains}
 use Rattle.spec.specs.Records.{solution_octets, solution_in}
-use Rattle.spec.specs.Answers.{Listed, refused_list, listing, assembly}
 use Rattle.spec.specs.Printed.{ascii, decimal, item, newline, solution_lines, is_path, refused_line}
 use Rattle.order.specs.Records.{record_at}
 use Rattle.printed.specs.Lines.{path_text}
@@ -31,10 +26,10 @@ start_text given number = decimal number ++ item " cost " (solution_in given).co
 
 -- what is printed of it, for assembly's answer and the path's record that it left
 abbrev pub text_by : PathAnswer → List ℕ → List ℕ → ℕ → List ℕ
-text_by Path p given number = start_text given number ++ path_text p
-text_by Loop p given number = start_text given number ++ (ascii " loop" ++ newline)
-text_by Bare p given number = start_text given number ++ (ascii " bare" ++ newline)
-text_by (RefusedPath r) p given number = []
+text_by (Ok Path) p given number = start_text given number ++ path_text p
+text_by (Ok Loop) p given number = start_text given number ++ (ascii " loop" ++ newline)
+text_by (Ok Bare) p given number = start_text given number ++ (ascii " bare" ++ newline)
+text_by (Err r) p given number = []
 
 -- the lines of the chain that the record is of; a record of no chain has none
 unfoldable pub lines_of_record : List ℕ → ℕ → List ℕ → List (List Edge) → List ℕ
@@ -45,8 +40,8 @@ lines_of_record b number given (c ∷ cs) =
 
 -- nor has a refused book any
 abbrev pub lines_on : Verdict → List ℕ → ℕ → List ℕ → List (List Edge) → List ℕ
-lines_on Accepted b number given found = lines_of_record b number given found
-lines_on (RefusedBook r) b number given found = []
+lines_on (Ok tt) b number given found = lines_of_record b number given found
+lines_on (Err r) b number given found = []
 
 unfoldable pub solution_text : List ℕ → IsdAsn → IsdAsn → List ℕ → ℕ → List ℕ
 solution_text b src dst given number = lines_on (verdict b) b number given (chains b src dst)
@@ -104,16 +99,16 @@ module _ (input : List ℕ) where
 
   -- the first line, for what listing answered
   abbrev pub first_by : ListAnswer → List ℕ → List ℕ
-  first_by (Count n) records = counts_line n (paths_to records n)
-  first_by (RefusedList r) records = refused_line r
+  first_by (Ok n) records = counts_line n (paths_to records n)
+  first_by (Err r) records = refused_line r
 
   unfoldable pub first_line : ℕ → List ℕ
   first_line bytes = first_by (listed bytes).0 (listed bytes).1
 
 -- how many solutions follow it
 abbrev pub count_of : ListAnswer → ℕ
-count_of (Count n) = n
-count_of (RefusedList r) = 0
+count_of (Ok n) = n
+count_of (Err r) = 0
 
 -- the first line, then the lines of each solution
 unfoldable pub pieces : List ℕ → ℕ → List ℕ

@@ -10,7 +10,7 @@ use spec::Refusal;
 pub(crate) fn refused_line(out: &mut [u8], r: Refusal) -> usize
     ensures { Wrote out.old 0 (refused_line r) out.new result × (result ≤ first_line_size) }
 {
-    let next = text::put_item(out, 0, b"refused ", r.number() as u64);
+    let next = text::put_item(out, 0, b"refused ", u64::from(r.number()));
     text::put_word(out, next, b"\n")
 }
 

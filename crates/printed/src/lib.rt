@@ -13,7 +13,7 @@ mod solution;
 mod text;
 
 pub use slots::ENDS;
-use spec::{ListAnswer, Path, Solution};
+use spec::{Path, Solution};
 
 // The longest line of an info, of an interface and of a solution, as `specs/Pieces` has them.
 const INFO_LINE: usize = 5 + 1 + 1 + 4 + 1 + 10 + 1;
@@ -40,23 +40,18 @@ pub struct Opening {
 pub fn first_line(input: &[u8], records: &mut [u8], out: &mut [u8]) -> Opening
     ensures { (records.new ≡ (listed input.now (length records.old)).1) × (result.solutions ≡ count_of (listed input.now (length records.old)).0) × (out.new ≡ written out.old 0 (first_line input.now (length records.old))) × (result.length ≡ length (first_line input.now (length records.old))) × (result.length ≤ first_line_size) }
 {
-    let answer = slots::list(input, records);
-    match answer {
-        ListAnswer::Count(n) => {
+    match slots::list(input, records) {
+        Ok(n) => {
             let paths = slots::count_paths(input, records, n);
-            let length = first::counts_line(out, n as u64, paths as u64);
             Opening {
-                length: length,
+                length: first::counts_line(out, n as u64, paths as u64),
                 solutions: n,
             }
         }
-        ListAnswer::Refused(r) => {
-            let length = first::refused_line(out, r);
-            Opening {
-                length: length,
-                solutions: 0,
-            }
-        }
+        Err(r) => Opening {
+            length: first::refused_line(out, r),
+            solutions: 0,
+        },
     }
 }
 

@@ -1,6 +1,5 @@
 // The lines of a path, from its record.
 ghost use Rattle.std.specs.Prelude.{◌≡◌, ◌+◌, ◌*◌, ◌^◌, ◌≤◌, ◌<◌};
-ghost use Rattle.spec.specs.Records.{bit};
 ghost use Rattle.spec.specs.Printed.{info_line, interface_line};
 ghost use Rattle.path.specs.Places.{Wrote};
 ghost use Rattle.printed.specs.Lines.{fields_line, info_text, interface_text, lines_to, path_text};
@@ -8,22 +7,16 @@ ghost use Rattle.printed.specs.Lines.{fields_line, info_text, interface_text, li
 use crate::text;
 use spec::{InfoField, PathInterface};
 
-fn bit(t: bool) -> u64
-    ensures { (result ≡ bit t) × (result ≤ 1) }
-{
-    if t { 1 } else { 0 }
-}
-
 // An info: flags, id, timestamp.
 fn info_line(out: &mut [u8], at: usize, i: InfoField) -> usize
     requires { at < 2 ^ 48 }
     ensures { Wrote out.old at (info_line i) out.new result × (result ≤ at + 64) }
 {
-    let flags = bit(i.construction) + 2 * bit(i.peering);
+    let flags = u64::from(i.construction) + 2 * u64::from(i.peering);
     let next = text::put_item(out, at, b"info ", flags);
     let space = text::put_word(out, next, b" ");
-    let then = text::put_hex(out, space, 4, i.id as u64);
-    let last = text::put_item(out, then, b" ", i.timestamp as u64);
+    let then = text::put_hex(out, space, 4, u64::from(i.id));
+    let last = text::put_item(out, then, b" ", u64::from(i.timestamp));
     text::put_word(out, last, b"\n")
 }
 
@@ -32,10 +25,9 @@ fn interface_line(out: &mut [u8], at: usize, i: PathInterface) -> usize
     requires { at < 2 ^ 48 }
     ensures { Wrote out.old at (interface_line i) out.new result × (result ≤ at + 64) }
 {
-    let local = i.local;
     let next = text::put_word(out, at, b"if ");
-    let then = text::put_hex(out, next, 16, local.0);
-    let last = text::put_item(out, then, b" ", i.id as u64);
+    let then = text::put_hex(out, next, 16, i.local.0);
+    let last = text::put_item(out, then, b" ", u64::from(i.id));
     text::put_word(out, last, b"\n")
 }
 
@@ -44,9 +36,9 @@ fn fields_line(out: &mut [u8], at: usize, mtu: u16, expiry: u32, hops: u8) -> us
     requires { at < 2 ^ 48 }
     ensures { Wrote out.old at (fields_line mtu expiry hops) out.new result × (result ≤ at + 128) }
 {
-    let next = text::put_item(out, at, b" mtu ", mtu as u64);
-    let then = text::put_item(out, next, b" expiry ", expiry as u64);
-    let last = text::put_item(out, then, b" hops ", hops as u64);
+    let next = text::put_item(out, at, b" mtu ", u64::from(mtu));
+    let then = text::put_item(out, next, b" expiry ", u64::from(expiry));
+    let last = text::put_item(out, then, b" hops ", u64::from(hops));
     text::put_word(out, last, b"\n")
 }
 
@@ -55,10 +47,8 @@ fn put_infos(path: &[u8], count: u8, out: &mut [u8], at: usize) -> usize
     ensures { Wrote out.old at (lines_to (info_text path.now) count) out.new result × (result ≤ at + 64 * 256) }
 {
     let mut to = at;
-    let mut k: u8 = 0;
-    while k < count {
+    for k in 0..count {
         to = info_line(out, to, records::info(path, k));
-        k += 1;
     }
     to
 }
@@ -68,10 +58,8 @@ fn put_interfaces(path: &[u8], count: u8, out: &mut [u8], at: usize) -> usize
     ensures { Wrote out.old at (lines_to (interface_text path.now) count) out.new result × (result ≤ at + 64 * 256) }
 {
     let mut to = at;
-    let mut k: u8 = 0;
-    while k < count {
+    for k in 0..count {
         to = interface_line(out, to, records::interface(path, k));
-        k += 1;
     }
     to
 }

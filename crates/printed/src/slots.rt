@@ -1,27 +1,56 @@
 // An input's list of records, and what is printed of each.
-ghost use Rattle.std.specs.Prelude.{◌≡◌, ◌+◌, ◌*◌, ◌≤◌, length};
+ghost use Rattle.std.specs.Prelude.{◌≡◌, ◌+◌, ◌*◌, ◌≤◌, length, drop};
 ghost use Rattle.spec.specs.Limits.{solution_size};
+ghost use Rattle.spec.specs.Book.{isd_asn_at};
+ghost use Rattle.order.specs.Records.{record_at};
 ghost use Rattle.path.specs.Places.{Wrote};
 ghost use Rattle.printed.specs.Pieces.{ends_size, slot_text, slot_has_path, paths_to, listed, solution_text_size};
 
 use crate::solution;
-use spec::{ListAnswer, Refusal, Solution};
+use spec::{IsdAsn, Refusal, Solution};
 
 // The bytes of an AS, and of an input before its book: source and destination.
 const AS: usize = 8;
 
 pub const ENDS: usize = 2 * AS;
 
-pub(crate) fn list(input: &[u8], records: &mut [u8]) -> ListAnswer
+// What an input asks: the two ends, of a book.
+#[derive(Clone, Copy)]
+struct Query<'a> {
+    src: IsdAsn,
+    dst: IsdAsn,
+    book: &'a [u8],
+}
+
+fn query_in(input: &[u8]) -> Query<'_>
+    requires { ends_size ≤ length input.now }
+    ensures { (result.src ≡ isd_asn_at input.now 0) × (result.dst ≡ isd_asn_at input.now 8) × (result.book.now ≡ drop ends_size input.now) }
+{
+    Query {
+        src: segment::isd_asn(input, 0),
+        dst: segment::isd_asn(input, AS),
+        book: &input[ENDS..],
+    }
+}
+
+// The record in slot k.
+fn record_at(records: &[u8], k: usize) -> &[u8]
+    requires { solution_size * (k + 1) ≤ length records.now }
+    ensures { result.now ≡ record_at records.now k }
+{
+    let at = Solution::SIZE * k;
+    &records[at..at + Solution::SIZE]
+}
+
+pub(crate) fn list(input: &[u8], records: &mut [u8]) -> Result<usize, Refusal>
     ensures { (result, records.new) ≡ listed input.now (length records.old) }
 {
     if input.len() < ENDS {
         output::zero(records, 0);
-        return ListAnswer::Refused(Refusal::Cut);
+        return Err(Refusal::Cut);
     }
-    let src = segment::isd_asn(input, 0);
-    let dst = segment::isd_asn(input, AS);
-    graph::list(src, dst, &input[ENDS..], records)
+    let query = query_in(input);
+    graph::list(query.src, query.dst, query.book, records)
 }
 
 fn has_path(input: &[u8], records: &[u8], k: usize) -> bool
@@ -29,11 +58,8 @@ fn has_path(input: &[u8], records: &[u8], k: usize) -> bool
     requires k_in_bounds { solution_size * (k + 1) ≤ length records.now }
     ensures { result ≡ slot_has_path input.now records.now k }
 {
-    let src = segment::isd_asn(input, 0);
-    let dst = segment::isd_asn(input, AS);
-    let at = Solution::SIZE * k;
-    let end = at + Solution::SIZE;
-    solution::has_path(src, dst, &input[ENDS..], &records[at..end])
+    let query = query_in(input);
+    solution::has_path(query.src, query.dst, query.book, record_at(records, k))
 }
 
 // How many of the first n slots hold the record of a path.
@@ -43,12 +69,10 @@ pub(crate) fn count_paths(input: &[u8], records: &[u8], n: usize) -> usize
     ensures { result ≡ paths_to input.now records.now n }
 {
     let mut paths: usize = 0;
-    let mut k: usize = 0;
-    while k < n {
+    for k in 0..n {
         if has_path(input, records, k) {
             paths += 1;
         }
-        k += 1;
     }
     paths
 }
@@ -58,10 +82,8 @@ pub(crate) fn put_slot(input: &[u8], records: &[u8], k: usize, out: &mut [u8]) -
     requires k_in_bounds { solution_size * (k + 1) ≤ length records.now }
     ensures { Wrote out.old 0 (slot_text input.now records.now k) out.new result × (result ≤ solution_text_size) }
 {
-    let src = segment::isd_asn(input, 0);
-    let dst = segment::isd_asn(input, AS);
-    let at = Solution::SIZE * k;
-    let end = at + Solution::SIZE;
+    let query = query_in(input);
     let number = (k + 1) as u64;
-    solution::put_solution(src, dst, &input[ENDS..], &records[at..end], number, out)
+    let given = record_at(records, k);
+    solution::put_solution(query.src, query.dst, query.book, given, number, out)
 }

@@ -7,7 +7,7 @@ ghost use Rattle.path.specs.Places.{Wrote};
 ghost use Rattle.printed.specs.Pieces.{start_text, text_by, solution_text, solution_text_size};
 
 use crate::{lines, text};
-use spec::{IsdAsn, Path, PathAnswer};
+use spec::{IsdAsn, Outcome, Path, Refusal};
 
 // Its number, cost, edges.
 fn put_start(given: &[u8], number: u64, out: &mut [u8]) -> usize
@@ -16,28 +16,28 @@ fn put_start(given: &[u8], number: u64, out: &mut [u8]) -> usize
     let cost = records::cost(given);
     let count = records::edge_count(given);
     let next = text::put_decimal(out, 0, number);
-    let then = text::put_item(out, next, b" cost ", cost as u64);
-    text::put_item(out, then, b" segments ", count as u64)
+    let then = text::put_item(out, next, b" cost ", u64::from(cost));
+    text::put_item(out, then, b" segments ", u64::from(count))
 }
 
 // For assembly's answer: the named fields and the lines of the path, or loop or bare in their place.
-fn put_answered(answer: PathAnswer, path: &[u8], given: &[u8], number: u64, out: &mut [u8]) -> usize
+fn put_answered(
+    answer: Result<Outcome, Refusal>,
+    path: &[u8],
+    given: &[u8],
+    number: u64,
+    out: &mut [u8],
+) -> usize
     ensures { Wrote out.old 0 (text_by answer path.now given.now number) out.new result }
 {
-    match answer {
-        PathAnswer::Path => {
-            let at = put_start(given, number, out);
-            lines::put_path(path, out, at)
-        }
-        PathAnswer::Loop => {
-            let at = put_start(given, number, out);
-            text::put_word(out, at, b" loop\n")
-        }
-        PathAnswer::Bare => {
-            let at = put_start(given, number, out);
-            text::put_word(out, at, b" bare\n")
-        }
-        PathAnswer::Refused(_) => 0,
+    let Ok(outcome) = answer else {
+        return 0;
+    };
+    let at = put_start(given, number, out);
+    match outcome {
+        Outcome::Path => lines::put_path(path, out, at),
+        Outcome::Loop => text::put_word(out, at, b" loop\n"),
+        Outcome::Bare => text::put_word(out, at, b" bare\n"),
     }
 }
 
@@ -57,20 +57,10 @@ pub(crate) fn put_solution(
     put_answered(answer, &path, given, number, out)
 }
 
-fn is_path(answer: PathAnswer) -> bool
-    ensures { result ≡ is_path answer }
-{
-    match answer {
-        PathAnswer::Path => true,
-        PathAnswer::Loop => false,
-        PathAnswer::Bare => false,
-        PathAnswer::Refused(_) => false,
-    }
-}
-
 pub(crate) fn has_path(src: IsdAsn, dst: IsdAsn, book: &[u8], given: &[u8]) -> bool
     ensures { result ≡ is_path (assembly book.now src dst given.now path_size).0 }
 {
     let mut path = [0u8; Path::SIZE];
-    is_path(path::assemble(src, dst, book, given, &mut path))
+    let answer = path::assemble(src, dst, book, given, &mut path);
+    answer == Ok(Outcome::Path)
 }

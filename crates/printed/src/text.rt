@@ -11,9 +11,9 @@ fn glyph(d: u64) -> u8
     ensures { result ≡ glyph_of d }
 {
     if d < 10 {
-        return 48 + d as u8;
+        return b'0' + d as u8;
     }
-    87 + d as u8
+    b'a' + (d - 10) as u8
 }
 
 // The last `count` digits, from the last to the first.
@@ -22,10 +22,8 @@ fn put_digits(out: &mut [u8], at: usize, base: u64, count: usize, n: u64)
     requires base_nonzero { (0 < base) × (base ≤ 16) }
     ensures { out.new ≡ written out.old at (digits base count n) }
 {
-    let mut i = count;
     let mut rest = n;
-    while 0 < i {
-        i -= 1;
+    for i in (0..count).rev() {
         output::put_byte(out, at + i, glyph(rest % base));
         rest /= base;
     }

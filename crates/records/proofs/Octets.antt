@@ -5,6 +5,7 @@ use native.Mathlib.Omega.{arith}
 use mathlib.Core.Path.{◌≡◌, refl, ap, ap₂, ◌∙◌}
 use mathlib.Core.List.{List, [], ◌∷◌, ◌++◌, flat_map}
 use lib.ListN.{length, get_or}
+use Rattle.std.specs.Int.{to_be_bytes, w16, w32}
 use Rattle.spec.specs.declared.Edge.{Edge}
 use Rattle.spec.specs.declared.InfoField.{InfoField}
 use Rattle.spec.specs.declared.Solution.{Solution}
@@ -17,6 +18,7 @@ use Rattle.spec.specs.Records.{bit, edge_octets, edge_at, edge_offset, no_edge, 
 use Rattle.spec.proofs.BookLaws.{be16-lt}
 use Rattle.output.specs.Write.{written}
 use Rattle.output.proofs.Writing.{written-pair}
+use Rattle.output.proofs.Copied.{be_bytes2, be_bytes4}
 use Rattle.records.specs.Octets.{edge_bytes, record_octets}
 
 -- ---- a solution
@@ -75,36 +77,21 @@ record_of_lem (e ∷ f ∷ g ∷ i ∷ c) h = absurd (omega arith)
 
 -- ---- an info
 
-two_bytes : (x : ℕ) → x < 2 ^ 16 → x / 256 ∷ x % 256 ∷ [] ≡ octets2 x
-unfolding octets2
-two_bytes x h = let e : x / 256 ≡ x / 2 ^ 8 % 2 ^ 8 = omega arith in ap (λ y. y ∷ x % 256 ∷ []) e
-
-four_bytes : (x : ℕ) → x < 2 ^ 32 → x / 16777216 ∷ x / 65536 % 256 ∷ x / 256 % 256 ∷ x % 256 ∷ [] ≡ octets4 x
-unfolding octets4 octets2
-four_bytes x h =
-    let p : x / 16777216 ≡ x / 2 ^ 16 / 2 ^ 8 % 2 ^ 8 = omega arith in
-    let q : x / 256 % 256 ≡ x % 2 ^ 16 / 2 ^ 8 % 2 ^ 8 = omega arith in
-    let r : x % 256 ≡ x % 2 ^ 16 % 2 ^ 8 = omega arith in
-    cc
-
-pub info-is : (i : InfoField) (x y : ℕ) → i.id < 2 ^ 16 → i.timestamp < 2 ^ 32 → x ≡ bit i.construction → y ≡ bit i.peering
-    → (x + 2 * y) ∷ i.hops ∷ i.id / 256 ∷ i.id % 256 ∷ i.timestamp / 16777216 ∷ i.timestamp / 65536 % 256 ∷ i.timestamp / 256 % 256 ∷ i.timestamp % 256 ∷ []
-    ≡ info_octets i
+pub info-is : (i : InfoField) {x y : ℕ} {a b : List ℕ} → x ≡ bit i.construction → y ≡ bit i.peering → a ≡ to_be_bytes w16 i.id → b ≡ to_be_bytes w32 i.timestamp
+    → (x + 2 * y) ∷ i.hops ∷ get_or a 0 0 ∷ get_or a 1 0 ∷ get_or b 0 0 ∷ get_or b 1 0 ∷ get_or b 2 0 ∷ get_or b 3 0 ∷ [] ≡ info_octets i
 unfolding info_octets
-info-is i x y h g p q =
-    ap₂ (λ u v. ((u + 2 * v) ∷ i.hops ∷ []) ++ (i.id / 256 ∷ i.id % 256 ∷ []) ++ (i.timestamp / 16777216 ∷ i.timestamp / 65536 % 256 ∷ i.timestamp / 256 % 256 ∷ i.timestamp % 256 ∷ [])) p q
-    ∙ ap₂ (λ u v. ((bit i.construction + 2 * bit i.peering) ∷ i.hops ∷ []) ++ u ++ v) (two_bytes i.id h) (four_bytes i.timestamp g)
+info-is i p q r s = rw (p, q, r, s, ← be_bytes2, ← be_bytes4) refl
 
 -- ---- a path's head, part by part
 
-pub counts-written : (d : List ℕ) (i h n : ℕ)
+counts-written : (d : List ℕ) (i h n : ℕ)
     → written (written (written (written d 0 (i ∷ [])) 1 (h ∷ [])) 2 (n ∷ [])) 3 (0 ∷ []) ≡ written d 0 (i ∷ h ∷ n ∷ 0 ∷ [])
 counts-written d i h n =
     ap (λ l. written (written l 2 (n ∷ [])) 3 (0 ∷ [])) (written-pair d 0 1 (i ∷ []) (h ∷ []) refl)
     ∙ ap (λ l. written l 3 (0 ∷ [])) (written-pair d 0 2 (i ∷ h ∷ []) (n ∷ []) refl)
     ∙ written-pair d 0 3 (i ∷ h ∷ n ∷ []) (0 ∷ []) refl
 
-pub ends-written : (d : List ℕ) (m e f l : ℕ)
+ends-written : (d : List ℕ) (m e f l : ℕ)
     → written (written (written (written d 4 (octets2 m)) 6 (octets4 e)) 10 (octets8 f)) 18 (octets8 l) ≡ written d 4 (octets2 m ++ octets4 e ++ octets8 f ++ octets8 l)
 ends-written d m e f l =
     ap (λ x. written (written x 10 (octets8 f)) 18 (octets8 l)) (written-pair d 4 2 (octets2 m) (octets4 e) (unfold octets2 in refl))
@@ -112,8 +99,8 @@ ends-written d m e f l =
     ∙ written-pair d 4 14 (octets2 m ++ octets4 e ++ octets8 f) (octets8 l) (unfold octets8 octets4 octets2 in refl)
 
 pub head-written : (d : List ℕ) (h : Path)
-    → written (written d 0 (h.infos ∷ h.hops ∷ h.interfaces ∷ 0 ∷ [])) 4 (octets2 h.mtu ++ octets4 h.expiry ++ octets8 h.first.0 ++ octets8 h.last.0)
+    → written (written (written (written (written (written (written (written d 0 (h.infos ∷ [])) 1 (h.hops ∷ [])) 2 (h.interfaces ∷ [])) 3 (0 ∷ [])) 4 (octets2 h.mtu)) 6 (octets4 h.expiry)) 10 (octets8 h.first.0)) 18 (octets8 h.last.0)
     ≡ written d 0 (path_head_octets h)
-unfolding path_head_octets as_octets octets8 octets4 octets2
+unfolding path_head_octets as_octets
 head-written d h =
-    written-pair d 0 4 (h.infos ∷ h.hops ∷ h.interfaces ∷ 0 ∷ []) (octets2 h.mtu ++ octets4 h.expiry ++ octets8 h.first.0 ++ octets8 h.last.0) refl
+    rw (counts-written, ends-written) (written-pair d 0 4 (h.infos ∷ h.hops ∷ h.interfaces ∷ 0 ∷ []) (octets2 h.mtu ++ octets4 h.expiry ++ octets8 h.first.0 ++ octets8 h.last.0) refl)

@@ -3,449 +3,362 @@
 // labels and cases. Each label has a line with the number of its cases and of those that differ.
 #![tactic(auto)]
 
-use order::Order;
 use spec::{Limits, Path, Solution};
+use std::cmp::Ordering;
 use std::io;
 use std::io::Read;
 
-// An item's first byte, its tag.
-const LABEL: u32 = 0;
+// The input breaks off, or is no stored answers.
+#[derive(Clone, Copy)]
+struct Malformed;
 
-const ANSWERS: u32 = 1;
+// What a case is of: the file of tests/stored that it is from.
+#[derive(Clone, Copy)]
+enum Kind {
+    Answers,
+    Refusals,
+    Routes,
+    Wire,
+    Comparisons,
+}
 
-const REFUSALS: u32 = 2;
-
-const ROUTES: u32 = 3;
-
-const WIRE: u32 = 4;
-
-const COMPARISONS: u32 = 5;
-
-// No number of the input's: it ends here, or is malformed.
-const NONE: u32 = 4294967295;
-
-const MALFORMED: u32 = 4294967294;
-
-// What is found of a case; of two the larger counts.
-const SAME: usize = 0;
-
-const DIFFERS: usize = 1;
-
-const BROKEN: usize = 2;
+// What the input goes on with.
+#[derive(Clone, Copy)]
+enum Item {
+    Label,
+    Case(Kind),
+    End,
+    Malformed,
+}
 
 // More labels, or more cases of one label, are no stored answers.
 const MOST: u64 = 1000000;
 
-// Source and destination, which stand before a case's book.
-const ENDS: usize = 16;
+// The bytes of an AS, and of source and destination, which stand before a case's book.
+const AS: usize = 8;
+
+const ENDS: usize = 2 * AS;
+
+// The longest record that is given.
+const RECORD: usize = 32;
 
 const REFUSED: u32 = 65536;
 
 // ---- reading
 
-// Reads n bytes to the start of buf; false where buf or the input is shorter.
-fn take(rt: &impl Input, buf: &mut [u8], n: usize) -> bool {
+// Reads n bytes to the start of buf.
+fn take<'a>(rt: &impl Input, buf: &'a mut [u8], n: usize) -> Result<&'a [u8], Malformed> {
     if buf.len() < n {
-        return false;
+        return Err(Malformed);
     }
-    rt.reader().read_exact(&mut buf[0..n]).is_ok()
+    let front = &mut buf[0..n];
+    if rt.reader().read_exact(front).is_err() {
+        return Err(Malformed);
+    }
+    Ok(front)
 }
 
-// The next number, of 1, 2 or 4 bytes, or NONE.
-fn number(rt: &impl Input, size: usize) -> u32 {
-    let mut h = [0u8; 4];
-    if !take(rt, &mut h, size) {
-        return NONE;
-    }
-    if size == 1 {
-        return octets::byte(&h, 0) as u32;
-    }
-    if size == 2 {
-        return octets::be16(&h, 0) as u32;
-    }
-    octets::be32(&h, 0)
+fn bytes<const N: usize>(rt: &impl Input) -> Result<[u8; N], Malformed> {
+    let mut b = [0u8; N];
+    take(rt, &mut b, N)?;
+    Ok(b)
 }
 
-// The next number as a length: NONE is longer than any buffer.
-fn length(rt: &impl Input, size: usize) -> usize {
-    number(rt, size) as usize
+fn read8(rt: &impl Input) -> Result<u8, Malformed> {
+    Ok(u8::from_be_bytes(bytes(rt)?))
 }
 
-// The first n bytes, or all.
-fn first(s: &[u8], n: usize) -> &[u8] {
-    if n <= s.len() {
-        return &s[0..n];
+fn read16(rt: &impl Input) -> Result<u16, Malformed> {
+    Ok(u16::from_be_bytes(bytes(rt)?))
+}
+
+fn read32(rt: &impl Input) -> Result<u32, Malformed> {
+    Ok(u32::from_be_bytes(bytes(rt)?))
+}
+
+// The start of a buffer: as much output as a case asks for.
+fn room(out: &mut [u8], n: usize) -> Result<&mut [u8], Malformed> {
+    if out.len() < n {
+        return Err(Malformed);
     }
-    s
+    Ok(&mut out[0..n])
+}
+
+// The next item, by its tag.
+fn next_item(rt: &impl Input) -> Item {
+    match read8(rt) {
+        Ok(0) => Item::Label,
+        Ok(1) => Item::Case(Kind::Answers),
+        Ok(2) => Item::Case(Kind::Refusals),
+        Ok(3) => Item::Case(Kind::Routes),
+        Ok(4) => Item::Case(Kind::Wire),
+        Ok(5) => Item::Case(Kind::Comparisons),
+        Ok(_) => Item::Malformed,
+        Err(_) => Item::End,
+    }
 }
 
 // ---- comparing
 
-// No byte of an output is left as it was.
-fn fill(out: &mut [u8]) {
-    for i in 0..out.len() {
-        out[i] = 0xa5;
-    }
-}
+// What every byte of an output is before a call.
+const LEFT: u8 = 0xa5;
 
-fn larger(x: usize, y: usize) -> usize {
-    if x < y {
-        return y;
-    }
-    x
+fn is_zero(s: &[u8]) -> bool {
+    s.iter().all(|x| *x == 0)
 }
 
 // Whether both hold the same bytes, the shorter followed by zeros.
 fn same(a: &[u8], b: &[u8]) -> bool {
-    let n = larger(a.len(), b.len());
-    for i in 0..n {
-        if octets::byte(a, i) != octets::byte(b, i) {
-            return false;
-        }
-    }
-    true
+    let n = a.len().min(b.len());
+    a[..n] == b[..n] && is_zero(&a[n..]) && is_zero(&b[n..])
 }
 
-fn compared(answer: u32, wanted: u32, out: &[u8], bytes: &[u8]) -> usize {
-    if answer != wanted {
-        return DIFFERS;
+// Whether a call answered and left what is wanted.
+fn compared(answer: u32, wanted: u32, out: &[u8], bytes: &[u8]) -> bool {
+    answer == wanted && same(out, bytes)
+}
+
+// What is wanted: the count, of routes or of bytes, or a refusal.
+fn number_wanted(refusal: u8, count: u16) -> u32 {
+    if refusal == 0 {
+        return u32::from(count);
     }
-    if same(out, bytes) {
-        return SAME;
-    }
-    DIFFERS
+    REFUSED + u32::from(refusal)
 }
 
 // ---- calls
 
-fn book(input: &[u8]) -> &[u8] {
-    if ENDS <= input.len() {
-        return &input[ENDS..];
+// Source, destination and book.
+#[derive(Clone, Copy)]
+struct Query<'a> {
+    src: u64,
+    dst: u64,
+    book: &'a [u8],
+}
+
+impl<'a> Query<'a> {
+    fn new(input: &'a [u8]) -> Result<Query<'a>, Malformed> {
+        if input.len() < ENDS {
+            return Err(Malformed);
+        }
+        Ok(Query {
+            src: octets::be64(input, 0),
+            dst: octets::be64(input, AS),
+            book: &input[ENDS..],
+        })
     }
-    input
-}
 
-fn list(input: &[u8], out: &mut [u8]) -> u32 {
-    fill(out);
-    let src = octets::be64(input, 0);
-    let dst = octets::be64(input, ENDS / 2);
-    combinator::combinator_list(src, dst, book(input), out)
-}
+    fn list(&self, out: &mut [u8]) -> u32 {
+        out.fill(LEFT);
+        combinator::combinator_list(self.src, self.dst, self.book, out)
+    }
 
-fn routes(input: &[u8], out: &mut [u8]) -> u32 {
-    fill(out);
-    let src = octets::be64(input, 0);
-    let dst = octets::be64(input, ENDS / 2);
-    combinator::combinator_routes(src, dst, book(input), out)
-}
+    fn routes(&self, out: &mut [u8]) -> u32 {
+        out.fill(LEFT);
+        combinator::combinator_routes(self.src, self.dst, self.book, out)
+    }
 
-fn assemble(input: &[u8], record: &[u8], out: &mut [u8]) -> u32 {
-    fill(out);
-    let src = octets::be64(input, 0);
-    let dst = octets::be64(input, ENDS / 2);
-    combinator::combinator_assemble(src, dst, book(input), record, out)
-}
-
-fn write(path: &[u8], out: &mut [u8]) -> u32 {
-    fill(out);
-    combinator::combinator_write(path, out)
-}
-
-fn read(wire: &[u8], out: &mut [u8]) -> u32 {
-    fill(out);
-    combinator::combinator_read(wire, out)
+    fn assemble(&self, record: &[u8], out: &mut [u8]) -> u32 {
+        out.fill(LEFT);
+        combinator::combinator_assemble(self.src, self.dst, self.book, record, out)
+    }
 }
 
 // ---- answers
 
 // Reads what assembly of one record must answer.
-fn path(rt: &impl Input, input: &[u8], record: &[u8]) -> usize {
-    let wanted = number(rt, 1);
-    let n = length(rt, 2);
-    let mut bytes = [0u8; Path::SIZE];
-    if !take(rt, &mut bytes, n) {
-        return BROKEN;
-    }
+fn path(rt: &impl Input, query: &Query, record: &[u8]) -> Result<bool, Malformed> {
+    let wanted = u32::from(read8(rt)?);
+    let n = usize::from(read16(rt)?);
+    let mut buf = [0u8; Path::SIZE];
+    let bytes = take(rt, &mut buf, n)?;
     let mut out = [0u8; Path::SIZE];
-    let answer = assemble(input, record, &mut out);
-    compared(answer, wanted, &out, first(&bytes, n))
+    let answer = query.assemble(record, &mut out);
+    Ok(compared(answer, wanted, &out, bytes))
 }
 
-fn paths(rt: &impl Input, input: &[u8], records: &[u8]) -> usize {
-    let mut worst = SAME;
-    let mut at: usize = 0;
-    while at < records.len() {
-        if records.len() - at < Solution::SIZE {
-            return BROKEN;
-        }
-        let end = at + Solution::SIZE;
-        worst = larger(worst, path(rt, input, &records[at..end]));
-        at = end;
+fn paths(rt: &impl Input, query: &Query, records: &[u8]) -> Result<bool, Malformed> {
+    let mut all = true;
+    for record in records.chunks_exact(Solution::SIZE) {
+        all &= path(rt, query, record)?;
     }
-    worst
-}
-
-fn list_and_paths(
-    rt: &impl Input,
-    input: &[u8],
-    count: u32,
-    records: &[u8],
-    slots: &mut [u8],
-) -> usize {
-    let answer = list(input, slots);
-    let listed = compared(answer, count, slots, records);
-    larger(listed, paths(rt, input, records))
+    Ok(all)
 }
 
 // A case of answers.bin, after its input.
-fn answers(rt: &impl Input, input: &[u8], records: &mut [u8], slots: &mut [u8]) -> usize {
-    let count = number(rt, 2);
-    let n = Solution::SIZE * count as usize;
-    if !take(rt, records, n) {
-        return BROKEN;
-    }
-    list_and_paths(rt, input, count, first(records, n), slots)
+fn answers(
+    rt: &impl Input,
+    query: &Query,
+    buf: &mut [u8],
+    slots: &mut [u8],
+) -> Result<bool, Malformed> {
+    let count = read16(rt)?;
+    let records = take(rt, buf, Solution::SIZE * usize::from(count))?;
+    let answer = query.list(slots);
+    let listed = compared(answer, u32::from(count), slots, records);
+    Ok(paths(rt, query, records)? && listed)
 }
 
 // ---- refusals
 
+#[derive(Clone, Copy)]
+enum Asked {
+    List,
+    Assemble,
+}
+
+fn ask(asked: Asked, query: &Query, record: &[u8], out: &mut [u8]) -> u32 {
+    match asked {
+        Asked::List => query.list(out),
+        Asked::Assemble => query.assemble(record, out),
+    }
+}
+
 // Where a call is not refused it answers as with the usual output.
 fn as_usual(
-    call: u32,
-    input: &[u8],
+    asked: Asked,
+    query: &Query,
     record: &[u8],
     answer: u32,
     out: &[u8],
     slots: &mut [u8],
-) -> usize {
+) -> bool {
     if REFUSED <= answer {
-        return DIFFERS;
+        return false;
     }
-    if call == 0 {
-        let usual = list(input, slots);
-        return compared(answer, usual, out, slots);
+    match asked {
+        Asked::List => {
+            let usual = query.list(slots);
+            compared(answer, usual, out, slots)
+        }
+        Asked::Assemble => {
+            let mut longest = [0u8; Path::SIZE];
+            let usual = query.assemble(record, &mut longest);
+            compared(answer, usual, out, &longest)
+        }
     }
-    let mut longest = [0u8; Path::SIZE];
-    let usual = assemble(input, record, &mut longest);
-    compared(answer, usual, out, &longest)
-}
-
-fn called(call: u32, input: &[u8], record: &[u8], out: &mut [u8]) -> u32 {
-    if call == 0 {
-        return list(input, out);
-    }
-    assemble(input, record, out)
-}
-
-fn refused(
-    call: u32,
-    input: &[u8],
-    record: &[u8],
-    refusal: u32,
-    out: &mut [u8],
-    slots: &mut [u8],
-) -> usize {
-    let answer = called(call, input, record, out);
-    if refusal == 0 {
-        return as_usual(call, input, record, answer, out, slots);
-    }
-    if 255 < refusal {
-        return BROKEN;
-    }
-    compared(answer, REFUSED + refusal, out, b"")
 }
 
 // A case of refusals.bin, after its input.
-fn refusals(rt: &impl Input, input: &[u8], out: &mut [u8], slots: &mut [u8]) -> usize {
-    let call = number(rt, 1);
-    let room = length(rt, 4);
-    let n = length(rt, 2);
-    let mut record = [0u8; 32];
-    if !take(rt, &mut record, n) {
-        return BROKEN;
+fn refusals(
+    rt: &impl Input,
+    query: &Query,
+    out: &mut [u8],
+    slots: &mut [u8],
+) -> Result<bool, Malformed> {
+    let asked = match read8(rt)? {
+        0 => Asked::List,
+        1 => Asked::Assemble,
+        _ => return Err(Malformed),
+    };
+    let bytes = read32(rt)? as usize;
+    let n = usize::from(read16(rt)?);
+    let mut buf = [0u8; RECORD];
+    let record = take(rt, &mut buf, n)?;
+    let refusal = read8(rt)?;
+    let out = room(out, bytes)?;
+    let answer = ask(asked, query, record, out);
+    if refusal == 0 {
+        return Ok(as_usual(asked, query, record, answer, out, slots));
     }
-    let refusal = number(rt, 1);
-    if 1 < call {
-        return BROKEN;
-    }
-    if out.len() < room {
-        return BROKEN;
-    }
-    refused(
-        call,
-        input,
-        first(&record, n),
-        refusal,
-        &mut out[0..room],
-        slots,
-    )
+    Ok(compared(answer, REFUSED + u32::from(refusal), out, b""))
 }
 
 // ---- routes
 
-// What is answered: the count, of routes or of bytes, or a refusal.
-fn number_wanted(refusal: u32, count: u32) -> u32 {
-    if refusal == 0 {
-        return count;
-    }
-    if 255 < refusal {
-        return NONE;
-    }
-    REFUSED + refusal
-}
-
-fn routes_of(input: &[u8], wanted: u32, records: &[u8], out: &mut [u8]) -> usize {
-    let answer = routes(input, out);
-    compared(answer, wanted, out, records)
-}
-
 // A case of routes.bin, after its input.
-fn routed(rt: &impl Input, input: &[u8], out: &mut [u8], records: &mut [u8]) -> usize {
-    let room = length(rt, 4);
-    let refusal = number(rt, 1);
-    let count = number(rt, 2);
-    let n = Solution::SIZE * count as usize;
-    if !take(rt, records, n) {
-        return BROKEN;
-    }
-    if out.len() < room {
-        return BROKEN;
-    }
-    routes_of(
-        input,
-        number_wanted(refusal, count),
-        first(records, n),
-        &mut out[0..room],
-    )
+fn routes(
+    rt: &impl Input,
+    query: &Query,
+    out: &mut [u8],
+    buf: &mut [u8],
+) -> Result<bool, Malformed> {
+    let bytes = read32(rt)? as usize;
+    let refusal = read8(rt)?;
+    let count = read16(rt)?;
+    let records = take(rt, buf, Solution::SIZE * usize::from(count))?;
+    let out = room(out, bytes)?;
+    let answer = query.routes(out);
+    Ok(compared(answer, number_wanted(refusal, count), out, records))
 }
 
 // ---- paths on the wire
 
-fn carry(call: u32, given: &[u8], out: &mut [u8]) -> u32 {
-    if call == 0 {
-        return write(given, out);
-    }
-    read(given, out)
-}
-
-fn carried_to(call: u32, given: &[u8], wanted: u32, bytes: &[u8], out: &mut [u8]) -> usize {
-    let answer = carry(call, given, out);
-    compared(answer, wanted, out, bytes)
-}
-
 // A case of wire.bin, after the path or the wire that is given.
-fn carried(rt: &impl Input, given: &[u8], out: &mut [u8], bytes: &mut [u8]) -> usize {
-    let call = number(rt, 1);
-    let room = length(rt, 4);
-    let refusal = number(rt, 1);
-    let count = number(rt, 2);
-    let n = count as usize;
-    if !take(rt, bytes, n) {
-        return BROKEN;
-    }
-    if 1 < call {
-        return BROKEN;
-    }
-    if out.len() < room {
-        return BROKEN;
-    }
-    carried_to(
-        call,
-        given,
-        number_wanted(refusal, count),
-        first(bytes, n),
-        &mut out[0..room],
-    )
+fn carried(
+    rt: &impl Input,
+    given: &[u8],
+    out: &mut [u8],
+    buf: &mut [u8],
+) -> Result<bool, Malformed> {
+    let call = read8(rt)?;
+    let bytes = read32(rt)? as usize;
+    let refusal = read8(rt)?;
+    let count = read16(rt)?;
+    let wanted = take(rt, buf, usize::from(count))?;
+    let out = room(out, bytes)?;
+    out.fill(LEFT);
+    let answer = match call {
+        0 => combinator::combinator_write(given, out),
+        1 => combinator::combinator_read(given, out),
+        _ => return Err(Malformed),
+    };
+    Ok(compared(answer, number_wanted(refusal, count), out, wanted))
 }
 
 // ---- comparisons
 
-// Of a stored pair.
-const BEFORE: u32 = 0;
-
-const SAME_PLACE: u32 = 1;
-
-const AFTER: u32 = 2;
-
-fn stands(o: Order) -> u32 {
-    match o {
-        Order::Before => BEFORE,
-        Order::Same => SAME_PLACE,
-        Order::After => AFTER,
-    }
-}
-
-fn compare(book: &[u8], a: &[u8], b: &[u8], place: u32, digests: u32) -> usize {
-    let c = order::compare_solutions(book, a, b);
-    let o = c.order;
-    if stands(o) != place {
-        return DIFFERS;
-    }
-    if c.digests as u32 != digests {
-        return DIFFERS;
-    }
-    SAME
+// Reads a record, after its length.
+fn record<'a>(rt: &impl Input, buf: &'a mut [u8]) -> Result<&'a [u8], Malformed> {
+    let n = usize::from(read8(rt)?);
+    take(rt, buf, n)
 }
 
 // Reads two records, how the first stands to the second, and how many fingerprints that takes.
-fn pair(rt: &impl Input, book: &[u8]) -> usize {
-    let n = length(rt, 1);
-    let mut a = [0u8; 32];
-    if !take(rt, &mut a, n) {
-        return BROKEN;
-    }
-    let m = length(rt, 1);
-    let mut b = [0u8; 32];
-    if !take(rt, &mut b, m) {
-        return BROKEN;
-    }
-    let place = number(rt, 1);
-    let digests = number(rt, 1);
-    if AFTER < place {
-        return BROKEN;
-    }
-    if 255 < digests {
-        return BROKEN;
-    }
-    compare(book, first(&a, n), first(&b, m), place, digests)
+fn pair(rt: &impl Input, book: &[u8]) -> Result<bool, Malformed> {
+    let mut first = [0u8; RECORD];
+    let a = record(rt, &mut first)?;
+    let mut second = [0u8; RECORD];
+    let b = record(rt, &mut second)?;
+    let stands = match read8(rt)? {
+        0 => Ordering::Less,
+        1 => Ordering::Equal,
+        2 => Ordering::Greater,
+        _ => return Err(Malformed),
+    };
+    let digests = read8(rt)?;
+    let c = order::compare_solutions(book, a, b);
+    Ok(c.order == stands && c.digests == digests)
 }
 
 // A case of comparisons.bin, after its book.
-fn pairs(rt: &impl Input, book: &[u8]) -> usize {
-    let count = number(rt, 2);
-    if count == NONE {
-        return BROKEN;
+fn pairs(rt: &impl Input, book: &[u8]) -> Result<bool, Malformed> {
+    let mut all = true;
+    for _ in 0..read16(rt)? {
+        all &= pair(rt, book)?;
     }
-    let mut worst = SAME;
-    for k in 0..count {
-        worst = larger(worst, pair(rt, book));
-    }
-    worst
+    Ok(all)
 }
 
 // ---- labels and their cases
 
-fn case(rt: &impl Input, kind: u32, input: &mut [u8], out: &mut [u8], slots: &mut [u8]) -> usize {
-    let n = length(rt, 4);
-    if !take(rt, input, n) {
-        return BROKEN;
+// Whether a case is answered as it is stored.
+fn case(
+    rt: &impl Input,
+    kind: Kind,
+    buf: &mut [u8],
+    out: &mut [u8],
+    slots: &mut [u8],
+) -> Result<bool, Malformed> {
+    let n = read32(rt)? as usize;
+    let input = take(rt, buf, n)?;
+    match kind {
+        Kind::Answers => answers(rt, &Query::new(input)?, out, slots),
+        Kind::Refusals => refusals(rt, &Query::new(input)?, out, slots),
+        Kind::Routes => routes(rt, &Query::new(input)?, out, slots),
+        Kind::Wire => carried(rt, input, out, slots),
+        Kind::Comparisons => pairs(rt, input),
     }
-    if kind == WIRE {
-        return carried(rt, first(input, n), out, slots);
-    }
-    if kind == COMPARISONS {
-        return pairs(rt, first(input, n));
-    }
-    if n < ENDS {
-        return BROKEN;
-    }
-    if kind == ANSWERS {
-        return answers(rt, first(input, n), out, slots);
-    }
-    if kind == ROUTES {
-        return routed(rt, first(input, n), out, slots);
-    }
-    refusals(rt, first(input, n), out, slots)
 }
 
 fn say_case(rt: &impl Print, label: &[u8], k: u64, what: &[u8]) -> io::Result<()> {
@@ -454,78 +367,56 @@ fn say_case(rt: &impl Print, label: &[u8], k: u64, what: &[u8]) -> io::Result<()
     rt.write_all(what)
 }
 
-fn say_found(rt: &impl Print, label: &[u8], k: u64, found: usize) -> io::Result<()> {
-    if found == DIFFERS {
-        say_case(rt, label, k, b" differs\n")?;
-    }
-    if found == BROKEN {
-        say_case(rt, label, k, b" is malformed\n")?;
-    }
-    Ok(())
-}
-
 fn say_label(rt: &impl Print, label: &[u8], cases: u64, differ: u64) -> io::Result<()> {
     rt.write_all(label)?;
     println!(rt; ": {cases} cases, {differ} differ")
 }
 
-fn is_case(tag: u32) -> bool {
-    if tag == ANSWERS {
-        return true;
-    }
-    if tag == ROUTES {
-        return true;
-    }
-    if tag == WIRE {
-        return true;
-    }
-    if tag == COMPARISONS {
-        return true;
-    }
-    tag == REFUSALS
-}
-
-// The cases of one label, and the tag that follows them.
+// The cases of one label, and what follows them.
 fn cases(
     rt: &(impl Input + Print),
     label: &[u8],
     input: &mut [u8],
     out: &mut [u8],
     slots: &mut [u8],
-) -> io::Result<u32> {
+) -> io::Result<Item> {
     let mut done: u64 = 0;
     let mut differ: u64 = 0;
-    let mut tag = number(rt, 1);
+    let mut next = next_item(rt);
     while done < MOST {
-        if !is_case(tag) {
+        let Item::Case(kind) = next else {
             break;
-        }
+        };
         done += 1;
-        let found = case(rt, tag, input, out, slots);
-        say_found(rt, label, done, found)?;
-        if DIFFERS < found {
-            return Ok(MALFORMED);
+        match case(rt, kind, input, out, slots) {
+            Ok(true) => {}
+            Ok(false) => {
+                differ += 1;
+                say_case(rt, label, done, b" differs\n")?;
+            }
+            Err(_) => {
+                say_case(rt, label, done, b" is malformed\n")?;
+                return Ok(Item::Malformed);
+            }
         }
-        differ += found as u64;
-        tag = number(rt, 1);
+        next = next_item(rt);
     }
     say_label(rt, label, done, differ)?;
-    Ok(tag)
+    Ok(next)
 }
 
-// One label with its cases, and the tag that follows them.
+// One label with its cases, and what follows them.
 fn label(
     rt: &(impl Input + Print),
     input: &mut [u8],
     out: &mut [u8],
     slots: &mut [u8],
-) -> io::Result<u32> {
-    let n = length(rt, 1);
-    let mut text = [0u8; 255];
-    if !take(rt, &mut text, n) {
-        return Ok(MALFORMED);
+) -> io::Result<Item> {
+    let mut buf = [0u8; 255];
+    match record(rt, &mut buf) {
+        Ok(text) => cases(rt, text, input, out, slots),
+        Err(_) => Ok(Item::Malformed),
     }
-    cases(rt, first(&text, n), input, out, slots)
 }
 
 // True where the input is labels and cases from its start to its end.
@@ -535,19 +426,17 @@ fn labels(
     out: &mut [u8],
     slots: &mut [u8],
 ) -> io::Result<bool> {
-    let mut tag = number(rt, 1);
-    if tag != LABEL {
+    let mut next = next_item(rt);
+    if !matches!(next, Item::Label) {
         return Ok(false);
     }
-    let mut k: u64 = 0;
-    while k < MOST {
-        if tag != LABEL {
+    for _ in 0..MOST {
+        if !matches!(next, Item::Label) {
             break;
         }
-        tag = label(rt, input, out, slots)?;
-        k += 1;
+        next = label(rt, input, out, slots)?;
     }
-    Ok(tag == NONE)
+    Ok(matches!(next, Item::End))
 }
 
 fn main(rt: HostRuntime) -> io::Result<()> {

@@ -25,5 +25,5 @@ fn peer_count(book: &[u8], at: usize) -> u8
 pub fn entry_size(book: &[u8], at: usize) -> usize
     ensures { (result ≡ entry_size + peer_size * peer_count book.now at) × (result ≤ entry_size + peer_size * 255) }
 {
-    AsEntry::SIZE + PeerEntry::SIZE * (peer_count(book, at) as usize)
+    AsEntry::SIZE + PeerEntry::SIZE * usize::from(peer_count(book, at))
 }

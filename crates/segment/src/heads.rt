@@ -5,29 +5,20 @@ ghost use Rattle.spec.specs.Book.{segment_count, head_offset, timestamp_at, id_a
 
 use spec::{Head, Sizes};
 
-fn wide(x: u16) -> usize
-    ensures { (result ≡ x) × (result < 2 ^ 16) }
-{
-    x as usize
-}
-
 pub fn sizes(book: &[u8]) -> Sizes
     ensures { result ≡ sizes_at book.now }
 {
-    let cores = octets::be16(book, 0);
-    let others = octets::be16(book, 2);
-    let bodies = octets::be32(book, 4);
     Sizes {
-        cores: cores,
-        others: others,
-        bodies: bodies,
+        cores: octets::be16(book, 0),
+        others: octets::be16(book, 2),
+        bodies: octets::be32(book, 4),
     }
 }
 
 pub fn segment_count(book: &[u8]) -> usize
     ensures { (result ≡ segment_count book.now) × (result < 2 ^ 17) }
 {
-    wide(octets::be16(book, 0)) + wide(octets::be16(book, 2))
+    usize::from(octets::be16(book, 0)) + usize::from(octets::be16(book, 2))
 }
 
 // Where the head at position k starts.
@@ -38,40 +29,38 @@ fn head_offset(k: usize) -> usize
     Sizes::SIZE + Head::SIZE * k
 }
 
-// The fields of the head at position k.
+// The fields of the head at position k, a line each: one reader over their places would be no shorter.
 pub fn timestamp(book: &[u8], k: u8) -> u32
     ensures { result ≡ timestamp_at book.now k }
 {
-    octets::be32(book, head_offset(k as usize))
+    octets::be32(book, head_offset(usize::from(k)))
 }
 
 pub fn id(book: &[u8], k: u8) -> u16
     ensures { result ≡ id_at book.now k }
 {
-    octets::be16(book, head_offset(k as usize) + Head::ID)
+    octets::be16(book, head_offset(usize::from(k)) + Head::ID)
 }
 
 pub fn entry_count(book: &[u8], k: u8) -> u16
     ensures { result ≡ entry_count_at book.now k }
 {
-    octets::be16(book, head_offset(k as usize) + Head::ENTRIES)
+    octets::be16(book, head_offset(usize::from(k)) + Head::ENTRIES)
 }
 
 pub fn body_length(book: &[u8], k: u8) -> u16
     ensures { result ≡ body_length_at book.now k }
 {
-    octets::be16(book, head_offset(k as usize) + Head::BODY)
+    octets::be16(book, head_offset(usize::from(k)) + Head::BODY)
 }
 
 // The bytes of the bodies before position k.
 fn lengths_below(book: &[u8], k: u8) -> usize
     ensures { (result ≡ lengths_below book.now k) × (result ≤ 65535 * k) }
 {
-    let mut sum: usize = 0;
-    let mut i: u8 = 0;
-    while i < k {
-        sum += wide(body_length(book, i));
-        i += 1;
+    let mut sum = 0;
+    for i in 0..k {
+        sum += usize::from(body_length(book, i));
     }
     sum
 }

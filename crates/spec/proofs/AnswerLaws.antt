@@ -1,14 +1,12 @@
 -- What listing and assembly answer on an accepted book, and demand 3.
 -- Assumes nothing.
+use Rattle.std.proofs.lemmas.Bool.{and_from}
 use Prim.Native.Nat.{ℕ, ◌≤◌, ◌<◌}
 use native.Mathlib.Omega.{arith}
 use mathlib.Core.Path.{◌≡◌, refl, sym, ap, ap₂, ◌∙◌, subst}
 use mathlib.Core.Logic.{◌⊎◌, inl, inr}
 use mathlib.Core.Bool.{Bool, true, false, false≢true}
-use mathlib.Core.List.Memᴰ.{cases_cons}
-use mathlib.Core.List.Memᴰ.{head}
-use mathlib.Core.List.Memᴰ.{not-nil}
-use mathlib.Core.List.Memᴰ.{tail}
+use mathlib.Core.List.Memᴰ.{cases_cons, head, not-nil, tail}
 use mathlib.Core.List.{List, [], ◌∷◌, ◌++◌, map, flat_map, Memᴰ as Mem, head-eq_of_cons-eq, tail-eq_of_cons-eq}
 use lib.ListN.{length}
 use lib.Dec.{eqb, ltb}
@@ -18,11 +16,11 @@ use Rattle.spec.specs.declared.Vertex.TheVariants.{AS}
 use Rattle.spec.specs.declared.Edge.{Edge}
 use Rattle.spec.specs.declared.Refusal.{Refusal}
 use Rattle.spec.specs.declared.Refusal.TheVariants.{Full, Small, Stranger}
-use Rattle.spec.specs.declared.Verdict.TheVariants.{Accepted, Refused as RefusedBook}
-use Rattle.spec.specs.declared.PathAnswer.{PathAnswer}
-use Rattle.spec.specs.declared.PathAnswer.TheVariants.{Path, Loop, Bare}
+use Rattle.std.specs.Prelude.{Ok, Err, if◌then◌else◌}
+use Rattle.spec.specs.Answers.{Listed, Assembled, listing, listing_of, listing_on, assembly, assembly_on, path_of_record, output_of, path_answer, refused_path, refused_list}
+use Rattle.spec.specs.declared.Outcome.{Outcome}
+use Rattle.spec.specs.declared.Outcome.TheVariants.{Path, Loop, Bare}
 use Rattle.spec.specs.Limits.{path_size}
-use Rattle.std.specs.Prelude.{if◌then◌else◌}
 use Rattle.spec.specs.Basics.{any, same_list, padded}
 use Rattle.spec.specs.Octets.{Bytes, octets2}
 use Rattle.spec.specs.Book.{verdict}
@@ -32,10 +30,8 @@ use Rattle.spec.specs.Assembly.{CombinedPath, combined_path, is_loop, is_bare, o
 use Rattle.spec.specs.Records.{edge_octets, solution_octets, slots}
 use Rattle.spec.specs.Router.{RouterAgrees}
 use Rattle.spec.specs.declared.PathInterface.{PathInterface}
-use Rattle.spec.specs.declared.ListAnswer.TheVariants.{Count}
-use Rattle.spec.specs.Answers.{Listed, Assembled, listing, listing_of, listing_on, assembly, assembly_on, path_of_record, output_of, path_answer, refused_path, refused_list}
 use Rattle.spec.specs.Demand3.{Demand3}
-use Rattle.spec.proofs.Membership.{and-true, true-and, not-both}
+use Rattle.spec.proofs.Membership.{and-true, not-both}
 use Rattle.spec.proofs.ChainLaws.{chains-sound, chains-complete}
 use Rattle.spec.proofs.OnceLaws.{solutions-sound, solutions-complete, once-solutions}
 use Rattle.spec.proofs.OrderLaws.{solutions-order}
@@ -57,7 +53,7 @@ same_list-eq (x ∷ xs) (y ∷ ys) q =
 pub same_list-refl : (xs : List ℕ) → same_list xs xs ≡ true
 unfolding same_list
 same_list-refl [] = refl
-same_list-refl (x ∷ xs) = true-and (eqb x x) (same_list xs xs) (eq-eqb x x refl) (same_list-refl xs)
+same_list-refl (x ∷ xs) = and_from (eqb x x) (same_list xs xs) (eq-eqb x x refl) (same_list-refl xs)
 
 -- ---- a record is of one chain
 
@@ -117,7 +113,7 @@ module _ (b : List ℕ) (src dst : IsdAsn) where
         go ih true q = absurd (none d (head refl) (same_list-eq _ _ q))
         go ih false q = ih
 
-    module _ (ok : verdict b ≡ Accepted) (room : path_size ≤ bytes) where
+    module _ (ok : verdict b ≡ Ok tt) (room : path_size ≤ bytes) where
       assembly-on : (given : List ℕ) → assembly b src dst given bytes ≡ path_of_record b bytes given (chains b src dst)
       unfolding assembly
       assembly-on given =
@@ -135,15 +131,15 @@ module _ (b : List ℕ) (src dst : IsdAsn) where
 -- ---- refused
 
 module _ (b : List ℕ) (src dst : IsdAsn) (bytes : ℕ) where
-  pub listing-refused : (digest : List ℕ → List ℕ) (r : Refusal) → verdict b ≡ RefusedBook r → listing digest b src dst bytes ≡ refused_list bytes r
+  pub listing-refused : (digest : List ℕ → List ℕ) (r : Refusal) → verdict b ≡ Err r → listing digest b src dst bytes ≡ refused_list bytes r
   unfolding listing
   listing-refused digest r q = ap (λ v. listing_on v bytes (solutions digest b src dst)) q
 
-  pub assembly-refused : (given : List ℕ) (r : Refusal) → verdict b ≡ RefusedBook r → assembly b src dst given bytes ≡ refused_path bytes r
+  pub assembly-refused : (given : List ℕ) (r : Refusal) → verdict b ≡ Err r → assembly b src dst given bytes ≡ refused_path bytes r
   unfolding assembly
   assembly-refused given r q = ap (λ v. assembly_on v b bytes given (chains b src dst)) q
 
-  pub assembly-small : (given : List ℕ) → verdict b ≡ Accepted → bytes < path_size → assembly b src dst given bytes ≡ refused_path bytes Small
+  pub assembly-small : (given : List ℕ) → verdict b ≡ Ok tt → bytes < path_size → assembly b src dst given bytes ≡ refused_path bytes Small
   unfolding assembly
   assembly-small given ok h =
       ap (λ v. assembly_on v b bytes given (chains b src dst)) ok
@@ -155,20 +151,25 @@ module _ (b : List ℕ) (bytes : ℕ) (c : List Edge) where
   abbrev p : CombinedPath
   p = combined_path b c
 
-  abbrev by : Bool → Bool → PathAnswer
+  abbrev by : Bool → Bool → Outcome
   by l e = if l then Loop else if e then Bare else Path
 
   pub outcome-by : (l e : Bool) → is_loop p.interfaces ≡ l → is_bare p.interfaces ≡ e → outcome p ≡ by l e
   unfolding outcome
   outcome-by l e q r = ap₂ by q r
 
-  pub first_of : outcome p ≡ (path_answer b bytes c).0
+  pub first_of : (path_answer b bytes c).0 ≡ Ok (outcome p)
   unfolding path_answer
   first_of = refl
 
-  pub answer-by : (o : PathAnswer) → outcome p ≡ o → path_answer b bytes c ≡ (o, output_of o bytes p)
+  pub answer-by : (o : Outcome) → outcome p ≡ o → path_answer b bytes c ≡ (Ok o, output_of o bytes p)
   unfolding path_answer
-  answer-by o q = ap (λ x. (x, output_of x bytes p)) q
+  answer-by o q = ap (λ x. (Ok x, output_of x bytes p)) q
+
+  -- the outcome is the one that is answered
+  pub outcome-is : (o : Outcome) → (path_answer b bytes c).0 ≡ Ok o → outcome p ≡ o
+  unfolding path_answer
+  outcome-is o q = cc
 
 pub bare-no-loop : (is : List PathInterface) → is_bare is ≡ true → is_loop is ≡ false
 unfolding is_bare is_loop any
@@ -177,12 +178,12 @@ bare-no-loop (i ∷ is) q = absurd (false≢true q)
 
 -- ---- listing on an accepted book
 
-module _ (digest : List ℕ → List ℕ) (b : List ℕ) (src dst : IsdAsn) (ok : verdict b ≡ Accepted) (bytes : ℕ) where
+module _ (digest : List ℕ → List ℕ) (b : List ℕ) (src dst : IsdAsn) (ok : verdict b ≡ Ok tt) (bytes : ℕ) where
   abbrev found-list : List (List Edge)
   found-list = solutions digest b src dst
 
   abbrev listed_by : Bool → Listed
-  listed_by t = if t then refused_list bytes Full else (Count (length found-list), padded bytes (flat_map solution_octets found-list))
+  listed_by t = if t then refused_list bytes Full else (Ok (length found-list), padded bytes (flat_map solution_octets found-list))
 
   pub listing-on : (t : Bool) → ltb (slots bytes) (length found-list) ≡ t → listing digest b src dst bytes ≡ listed_by t
   unfolding listing listing_of
@@ -190,7 +191,7 @@ module _ (digest : List ℕ → List ℕ) (b : List ℕ) (src dst : IsdAsn) (ok 
 
 -- ---- demand 3
 
-pub demand-3 : (digest : List ℕ → List ℕ) (b : List ℕ) → Bytes b → verdict b ≡ Accepted → (src dst : IsdAsn) → Demand3 digest b src dst
+pub demand-3 : (digest : List ℕ → List ℕ) (b : List ℕ) → Bytes b → verdict b ≡ Ok tt → (src dst : IsdAsn) → Demand3 digest b src dst
 unfolding refused_list refused_path
 demand-3 digest b bs ok src dst =
     record {
@@ -209,6 +210,6 @@ demand-3 digest b bs ok src dst =
       stranger = λ given none bytes room. assembly-stranger b src dst bytes ok room given none;
       routed = λ c h bytes room q.
           let e : assembly b src dst (solution_octets c) bytes ≡ path_answer b bytes c = assembly-chain b src dst bytes ok room c h in
-          let o : outcome (combined_path b c) ≡ Path = first_of b bytes c ∙ sym (ap (λ (x : Assembled). x.0) e) ∙ q in
+          let o : outcome (combined_path b c) ≡ Path = outcome-is b bytes c Path (sym (ap (λ (x : Assembled). x.0) e) ∙ q) in
           subst (RouterAgrees b c) (sym (ap (λ (x : Assembled). x.1) (e ∙ answer-by b bytes c Path o))) (router-agrees b bs c (λ f m. stored b (h.stored f m)) bytes);
     }

@@ -10,10 +10,9 @@ use lib.ListN.{length, get_or}
 use lib.Dec.{ltb, eqb}
 use borrow.Author.Tests.{ltb-false, eqb-true, eqb-false}
 use Rattle.spec.specs.declared.Refusal.TheVariants.{Peers, Misfit, Twice}
-use Rattle.spec.specs.declared.Verdict.{Verdict}
-use Rattle.spec.specs.declared.Verdict.TheVariants.{Accepted, Refused}
+use Rattle.std.specs.Prelude.{Ok, Err}
+use Rattle.spec.specs.Book.{Verdict, segment_count, body_total, whole_length, head_offset, lengths_below, body_length_at, body_offset, passes_twice, body_verdict, bodies_verdict, entries_verdict, ◌and_then◌, entry_count_at, entry_at, entries_at, entry_offset, entry_end, peer_count, peer_offset, segment_at}
 use Rattle.spec.specs.Limits.{entry_size, peer_size, max_peers}
-use Rattle.spec.specs.Book.{segment_count, body_total, whole_length, head_offset, lengths_below, body_length_at, body_offset, passes_twice, body_verdict, bodies_verdict, entries_verdict, ◌and_then◌, entry_count_at, entry_at, entries_at, entry_offset, entry_end, peer_count, peer_offset, segment_at}
 use Rattle.spec.specs.Edges.{no_entry, entry_of}
 use Rattle.spec.proofs.BookLaws.{AcceptedBook, passed}
 
@@ -45,7 +44,7 @@ pub record GoodPlace (b : List ℕ) (end at : ℕ) : Type 0 where
   pub peers : entry_end b at ≤ end
 
 module _ (b : List ℕ) (end : ℕ) where
-  good-first : (at n : ℕ) → entries_verdict b end at (suc n) ≡ Accepted → GoodPlace b end at × (entries_verdict b end (entry_end b at) n ≡ Accepted)
+  good-first : (at n : ℕ) → entries_verdict b end at (suc n) ≡ Ok tt → GoodPlace b end at × (entries_verdict b end (entry_end b at) n ≡ Ok tt)
   unfolding entries_verdict
   good-first at n q =
       let p₁ = passed (ltb end (at + entry_size)) Misfit _ q in
@@ -53,15 +52,15 @@ module _ (b : List ℕ) (end : ℕ) where
       let p₃ = passed (ltb end (entry_end b at)) Misfit _ p₂.1 in
       (record { entry = ltb-false _ _ p₁.0; few = ltb-false _ _ p₂.0; peers = ltb-false _ _ p₃.0 }, p₃.1)
 
-  pub good-places : (n at : ℕ) → entries_verdict b end at n ≡ Accepted → (i : ℕ) → i < n → GoodPlace b end (entry_offset b at i)
+  pub good-places : (n at : ℕ) → entries_verdict b end at n ≡ Ok tt → (i : ℕ) → i < n → GoodPlace b end (entry_offset b at i)
   good-places zero at q i h = absurd (omega arith)
   good-places (suc n) at q zero h = unfold entry_offset in (good-first at n q).0
   good-places (suc n) at q (suc i) h =
       subst (GoodPlace b end) (offset-shift b at i) (good-places n (entry_end b at) (good-first at n q).1 i (omega arith))
 
   -- no bytes remain
-  filled : (n at : ℕ) → at ≤ end → entries_verdict b end at n ≡ Accepted → entry_offset b at n ≡ end
-  filled zero at h q = unfold entries_verdict entry_offset in (done (passed (ltb at end) Misfit Accepted q).0)
+  filled : (n at : ℕ) → at ≤ end → entries_verdict b end at n ≡ Ok tt → entry_offset b at n ≡ end
+  filled zero at h q = unfold entries_verdict entry_offset in (done (passed (ltb at end) Misfit (Ok tt) q).0)
     where
       done : ltb at end ≡ false → at ≡ end
       done r = let k = ltb-false at end r in omega arith
@@ -69,24 +68,24 @@ module _ (b : List ℕ) (end : ℕ) where
 
 -- ---- an accepted book
 
-both-accepted : (v w : Verdict) → (v and_then w) ≡ Accepted → (v ≡ Accepted) × (w ≡ Accepted)
-both-accepted Accepted w q = (refl, q)
-both-accepted (Refused r) w q = absurd (subst is_refused q tt)
+both-accepted : (v w : Verdict) → (v and_then w) ≡ Ok tt → (v ≡ Ok tt) × (w ≡ Ok tt)
+both-accepted (Ok tt) w q = (refl, q)
+both-accepted (Err r) w q = absurd (subst is_refused q tt)
   where
     is_refused : Verdict → Type 0
-    is_refused Accepted = ⊥
-    is_refused (Refused s) = Unit
+    is_refused (Ok tt) = ⊥
+    is_refused (Err s) = Unit
 
-bodies-accepted : (b : List ℕ) (left k : ℕ) → bodies_verdict b k left ≡ Accepted → (j : ℕ) → k ≤ j → j < k + left → body_verdict b j ≡ Accepted
+bodies-accepted : (b : List ℕ) (left k : ℕ) → bodies_verdict b k left ≡ Ok tt → (j : ℕ) → k ≤ j → j < k + left → body_verdict b j ≡ Ok tt
 unfolding bodies_verdict
 bodies-accepted b zero k q j h l = absurd (omega arith)
 bodies-accepted b (suc left) k q j h l = go (λ r. bodies-accepted b left (k + 1) r j) (eqb j k) refl
   where
-    p : (body_verdict b k ≡ Accepted) × (bodies_verdict b (k + 1) left ≡ Accepted)
+    p : (body_verdict b k ≡ Ok tt) × (bodies_verdict b (k + 1) left ≡ Ok tt)
     p = both-accepted (body_verdict b k) (bodies_verdict b (k + 1) left) q
 
-    go : (bodies_verdict b (k + 1) left ≡ Accepted → k + 1 ≤ j → j < k + 1 + left → body_verdict b j ≡ Accepted) → (t : Bool) → eqb j k ≡ t
-        → body_verdict b j ≡ Accepted
+    go : (bodies_verdict b (k + 1) left ≡ Ok tt → k + 1 ≤ j → j < k + 1 + left → body_verdict b j ≡ Ok tt) → (t : Bool) → eqb j k ≡ t
+        → body_verdict b j ≡ Ok tt
     go ih true r = ap (body_verdict b) (eqb-true j k r) ∙ p.0
     go ih false r = let n = eqb-false j k r in ih p.1 (omega arith) (omega arith)
 
@@ -101,17 +100,17 @@ lengths-mono b j (suc k) h = go (lengths-mono b j k) (eqb j (suc k)) refl
     go ih false r = let n = eqb-false j (suc k) r in let m = ih (omega arith) in omega arith
 
 module _ (b : List ℕ) (a : AcceptedBook b) (k : ℕ) (h : k < segment_count b) where
-  pub body-accepted : body_verdict b k ≡ Accepted
+  pub body-accepted : body_verdict b k ≡ Ok tt
   body-accepted = bodies-accepted b (segment_count b) 0 a.bodies k (omega arith) (omega arith)
 
   -- its entries fit, and none has an AS that stands earlier
-  entries-accepted : entries_verdict b (body_offset b k + body_length_at b k) (body_offset b k) (entry_count_at b k) ≡ Accepted
+  entries-accepted : entries_verdict b (body_offset b k + body_length_at b k) (body_offset b k) (entry_count_at b k) ≡ Ok tt
   unfolding body_verdict
   entries-accepted = (both-accepted _ _ body-accepted).0
 
   pub not-twice : passes_twice b k ≡ false
   unfolding body_verdict
-  not-twice = (passed (passes_twice b k) Twice Accepted (both-accepted (entries_verdict b (body_offset b k + body_length_at b k) (body_offset b k) (entry_count_at b k)) _ body-accepted).1).0
+  not-twice = (passed (passes_twice b k) Twice (Ok tt) (both-accepted (entries_verdict b (body_offset b k + body_length_at b k) (body_offset b k) (entry_count_at b k)) _ body-accepted).1).0
 
   -- a body is inside the book
   pub body_end : body_offset b k + body_length_at b k ≤ length b

@@ -5,10 +5,7 @@ use native.Mathlib.Omega.{arith}
 use mathlib.Core.Path.{◌≡◌, refl, sym, ap, ◌∙◌, subst}
 use mathlib.Core.Logic.{⊎_elim}
 use mathlib.Core.Bool.{Bool, true, false, not}
-use mathlib.Core.List.Memᴰ.{cases_cons}
-use mathlib.Core.List.Memᴰ.{head}
-use mathlib.Core.List.Memᴰ.{not-nil}
-use mathlib.Core.List.Memᴰ.{tail}
+use mathlib.Core.List.Memᴰ.{cases_cons, head, not-nil, tail}
 use mathlib.Core.List.{List, [], ◌∷◌, map, Memᴰ as Mem}
 use lib.ListN.{length, get_or, take}
 use lib.Dec.{eqb, ltb}
@@ -18,14 +15,12 @@ use Rattle.spec.specs.declared.HopField.{HopField}
 use Rattle.spec.specs.declared.PeerEntry.{PeerEntry}
 use Rattle.spec.specs.declared.Refusal.{Refusal}
 use Rattle.spec.specs.declared.Refusal.TheVariants.{Cut, Surplus, Oversize, Crowded, Long, Misfit}
-use Rattle.spec.specs.declared.Verdict.{Verdict}
-use Rattle.spec.specs.declared.Verdict.TheVariants.{Accepted, Refused}
+use Rattle.std.specs.Prelude.{Ok, Err, if◌then◌else◌}
+use Rattle.spec.specs.Book.{Verdict, Entry, segment_count, body_total, whole_length, lengths_below, is_long, too_long, bodies_verdict, verdict, mac_at, as_entry_at, peer_entry_at, peer_offset, peer_of_entry_at, peer_count, entry_at, entries_at, entry_end, segment_at, segments, entry_count_at, body_offset, id_at, timestamp_at}
 use Rattle.spec.specs.declared.Edge.{Edge}
 use Rattle.spec.specs.Limits.{sizes_size, max_book, max_segments, max_entries}
-use Rattle.std.specs.Prelude.{if◌then◌else◌}
 use Rattle.spec.specs.Basics.{any, range}
 use Rattle.spec.specs.Octets.{Bytes, be16, be32}
-use Rattle.spec.specs.Book.{Entry, segment_count, body_total, whole_length, lengths_below, is_long, too_long, bodies_verdict, verdict, mac_at, as_entry_at, peer_entry_at, peer_offset, peer_of_entry_at, peer_count, entry_at, entries_at, entry_end, segment_at, segments, entry_count_at, body_offset, id_at, timestamp_at}
 use Rattle.spec.specs.Edges.{no_entry, no_peer, entry_of, peer_of, insertions, firsts, stored_of, stored_edges}
 use Rattle.spec.specs.Assembly.{fold_step, fold_macs, mac_of, id_below, in_direction, used_entries, hop_of, hops_of, info_of, segment_of, is_peer_hop}
 use Rattle.spec.proofs.Membership.{not-both, filter-mem, map-mem, flat_map-mem}
@@ -41,17 +36,17 @@ pub record AcceptedBook (b : List ℕ) : Type 0 where
   pub whole : length b ≡ whole_length b
   pub short : too_long b ≡ false
   pub sum : lengths_below b (segment_count b) ≡ body_total b
-  pub bodies : bodies_verdict b 0 (segment_count b) ≡ Accepted
+  pub bodies : bodies_verdict b 0 (segment_count b) ≡ Ok tt
 
 abbrev is_accepted : Verdict → Type 0
-is_accepted Accepted = Unit
-is_accepted (Refused r) = ⊥
+is_accepted (Ok tt) = Unit
+is_accepted (Err r) = ⊥
 
-pub passed : (t : Bool) (r : Refusal) (v : Verdict) → (if t then Refused r else v) ≡ Accepted → (t ≡ false) × (v ≡ Accepted)
+pub passed : (t : Bool) (r : Refusal) (v : Verdict) → (if t then Err r else v) ≡ Ok tt → (t ≡ false) × (v ≡ Ok tt)
 passed true r v q = absurd (subst is_accepted (sym q) tt)
 passed false r v q = (refl, q)
 
-pub accepted : (b : List ℕ) → verdict b ≡ Accepted → AcceptedBook b
+pub accepted : (b : List ℕ) → verdict b ≡ Ok tt → AcceptedBook b
 unfolding verdict
 accepted b q =
     let p₁ = passed (ltb max_book (length b)) Oversize _ q in

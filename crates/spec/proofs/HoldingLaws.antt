@@ -1,18 +1,14 @@
 -- What is held, one after the other: each route once, in order of first appearance, the earliest with the greatest expiry; and that what is held
 -- follows a map.
 -- Assumes nothing.
+use Rattle.std.proofs.lemmas.Bool.{and_from}
 use Prim.Native.Nat.{ℕ, suc, ◌+◌, ◌≤◌, ◌<◌}
 use native.Mathlib.Omega.{arith}
 use mathlib.Core.Path.{◌≡◌, refl, sym, ap, ap₂, ◌∙◌, subst}
 use mathlib.Core.Logic.{◌⊎◌, inl, inr, ⊎_elim}
 use mathlib.Core.Bool.{Bool, true, false, ◌&&◌, ◌||◌, false≢true}
 use mathlib.Core.List.Memᴰ
-use mathlib.Core.List.Memᴰ.{append_cases}
-use mathlib.Core.List.Memᴰ.{cases_cons}
-use mathlib.Core.List.Memᴰ.{eq_of_singleton}
-use mathlib.Core.List.Memᴰ.{head}
-use mathlib.Core.List.Memᴰ.{not-nil}
-use mathlib.Core.List.Memᴰ.{tail}
+use mathlib.Core.List.Memᴰ.{append_cases, cases_cons, eq_of_singleton, head, not-nil, tail}
 use mathlib.Core.List.{List, [], ◌∷◌, ◌++◌, map, append_assoc, append-nil, Memᴰ as Mem}
 use lib.ListN.{length}
 use lib.Dec.{eqb, ltb}
@@ -21,7 +17,7 @@ use Rattle.spec.specs.declared.PathInterface.{PathInterface}
 use Rattle.std.specs.Prelude.{if◌then◌else◌}
 use Rattle.spec.specs.Basics.{any, filter, Once}
 use Rattle.spec.specs.Book.{same_as}
-use Rattle.spec.proofs.Membership.{and-true, true-and, not-both, map-mem, mem-map, once-append}
+use Rattle.spec.proofs.Membership.{and-true, not-both, map-mem, mem-map, once-append}
 use Rattle.spec.specs.Routes.{same_interface, same_interfaces, longer, hold, hold_all}
 use Rattle.spec.specs.RouteDemand.{add_new, appearances, Best}
 
@@ -43,8 +39,8 @@ pub interfaces-refl : (is : List PathInterface) → same_interfaces is is ≡ tr
 unfolding same_interfaces same_interface same_as
 interfaces-refl [] = refl
 interfaces-refl (i ∷ is) =
-    true-and (eqb i.local.0 i.local.0 && eqb i.id i.id) (same_interfaces is is)
-    (true-and (eqb i.local.0 i.local.0) (eqb i.id i.id) (eq-eqb i.local.0 i.local.0 refl) (eq-eqb i.id i.id refl)) (interfaces-refl is)
+    and_from (eqb i.local.0 i.local.0 && eqb i.id i.id) (same_interfaces is is)
+    (and_from (eqb i.local.0 i.local.0) (eqb i.id i.id) (eq-eqb i.local.0 i.local.0 refl) (eq-eqb i.id i.id refl)) (interfaces-refl is)
 
 pub interfaces-same : (is js : List PathInterface) → is ≡ js → same_interfaces is js ≡ true
 interfaces-same is js q = subst (λ l. same_interfaces is l ≡ true) q (interfaces-refl is)

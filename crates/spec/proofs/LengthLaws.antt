@@ -5,8 +5,7 @@ use native.Mathlib.Nat.{div-mul-le_self}
 use native.Mathlib.Omega.{arith}
 use mathlib.Core.Path.{◌≡◌, refl, subst}
 use mathlib.Core.Bool.{Bool, true, false}
-use mathlib.Core.List.Memᴰ.{head}
-use mathlib.Core.List.Memᴰ.{tail}
+use mathlib.Core.List.Memᴰ.{head, tail}
 use mathlib.Core.List.{List, [], ◌∷◌, map, flat_map, Memᴰ as Mem}
 use lib.ListN.{length, replicate, length-append, length-map, length-replicate}
 use lib.Dec.{ltb}
@@ -15,22 +14,18 @@ use Rattle.spec.specs.declared.IsdAsn.{IsdAsn}
 use Rattle.spec.specs.declared.Edge.{Edge}
 use Rattle.spec.specs.declared.Refusal.{Refusal}
 use Rattle.spec.specs.declared.Refusal.TheVariants.{Full, Small, Stranger}
-use Rattle.spec.specs.declared.Verdict.{Verdict}
-use Rattle.spec.specs.declared.Verdict.TheVariants.{Accepted, Refused as RefusedBook}
-use Rattle.spec.specs.declared.ListAnswer.{ListAnswer}
-use Rattle.spec.specs.declared.ListAnswer.TheVariants.{Count, Refused as RefusedList}
-use Rattle.spec.specs.declared.PathAnswer.{PathAnswer}
-use Rattle.spec.specs.declared.PathAnswer.TheVariants.{Path, Loop, Bare, Refused as RefusedPath}
+use Rattle.std.specs.Prelude.{Ok, Err, if◌then◌else◌}
+use Rattle.spec.specs.Answers.{ListAnswer, PathAnswer, Listed, Assembled, refused_list, listing_of, listing_on, listing, refused_path, output_of, path_answer, path_of_record, assembly_on, assembly}
+use Rattle.spec.specs.Book.{Verdict, verdict}
+use Rattle.spec.specs.declared.Outcome.{Outcome}
+use Rattle.spec.specs.declared.Outcome.TheVariants.{Path, Loop, Bare}
 use Rattle.spec.specs.Limits.{max_edges, solution_size, edge_size, path_size}
-use Rattle.std.specs.Prelude.{if◌then◌else◌}
 use Rattle.spec.specs.Basics.{same_list, padded}
 use Rattle.spec.specs.Octets.{Bytes, octets2}
-use Rattle.spec.specs.Book.{verdict}
 use Rattle.spec.specs.Chains.{chains}
 use Rattle.spec.specs.Order.{solution_edge, solutions}
 use Rattle.spec.specs.Assembly.{CombinedPath, combined_path, outcome}
 use Rattle.spec.specs.Records.{edge_octets, solution_octets, path_octets, slots}
-use Rattle.spec.specs.Answers.{Listed, Assembled, refused_list, listing_of, listing_on, listing, refused_path, output_of, path_answer, path_of_record, assembly_on, assembly}
 use Rattle.spec.proofs.ChainLaws.{allowed-length, chains-sound}
 use Rattle.spec.proofs.OnceLaws.{solutions-sound}
 use Rattle.spec.proofs.BookLaws.{accepted}
@@ -58,8 +53,8 @@ abbrev Zeros : ℕ → List ℕ → Type 0
 Zeros bytes l = l ≡ replicate bytes 0
 
 abbrev is_count : ListAnswer → Type 0
-is_count (Count n) = Unit
-is_count (RefusedList r) = ⊥
+is_count (Ok n) = Unit
+is_count (Err r) = ⊥
 
 module _ (digest : List ℕ → List ℕ) (b : List ℕ) (src dst : IsdAsn) (bytes : ℕ) where
   abbrev found : List (List Edge)
@@ -71,7 +66,7 @@ module _ (digest : List ℕ → List ℕ) (b : List ℕ) (src dst : IsdAsn) (byt
       (λ c m. solution-length c (allowed-length c (solutions-sound digest b src dst c m).kinds))
 
   abbrev listed : Bool → Listed
-  listed full = if full then refused_list bytes Full else (Count (length found), padded bytes (flat_map solution_octets found))
+  listed full = if full then refused_list bytes Full else (Ok (length found), padded bytes (flat_map solution_octets found))
 
   listed-length : (t : Bool) → ltb (slots bytes) (length found) ≡ t → length (listed t).1 ≡ bytes
   unfolding refused_list
@@ -83,21 +78,21 @@ module _ (digest : List ℕ → List ℕ) (b : List ℕ) (src dst : IsdAsn) (byt
   list_length = go (verdict b)
     where
       go : (v : Verdict) → length (listing_on v bytes found).1 ≡ bytes
-      go (RefusedBook r) = length-replicate {A = ℕ} bytes 0
-      go Accepted = listed-length (ltb (slots bytes) (length found)) refl
+      go (Err r) = length-replicate {A = ℕ} bytes 0
+      go (Ok tt) = listed-length (ltb (slots bytes) (length found)) refl
 
-  listed-refused : (r : Refusal) (t : Bool) → (listed t).0 ≡ RefusedList r → Zeros bytes (listed t).1
+  listed-refused : (r : Refusal) (t : Bool) → (listed t).0 ≡ Err r → Zeros bytes (listed t).1
   unfolding refused_list
   listed-refused r true q = refl
   listed-refused r false q = absurd (subst is_count q tt)
 
-  pub list-refused : (r : Refusal) → (listing digest b src dst bytes).0 ≡ RefusedList r → Zeros bytes (listing digest b src dst bytes).1
+  pub list-refused : (r : Refusal) → (listing digest b src dst bytes).0 ≡ Err r → Zeros bytes (listing digest b src dst bytes).1
   unfolding listing listing_of refused_list
   list-refused r = go (verdict b)
     where
-      go : (v : Verdict) → (listing_on v bytes found).0 ≡ RefusedList r → Zeros bytes (listing_on v bytes found).1
-      go (RefusedBook s) q = refl
-      go Accepted q = listed-refused r (ltb (slots bytes) (length found)) q
+      go : (v : Verdict) → (listing_on v bytes found).0 ≡ Err r → Zeros bytes (listing_on v bytes found).1
+      go (Err s) q = refl
+      go (Ok tt) q = listed-refused r (ltb (slots bytes) (length found)) q
 
 -- ---- assembly
 
@@ -105,20 +100,19 @@ module _ (b : List ℕ) (bytes : ℕ) where
   -- the two facts of an answer
   pub record Clean (a : Assembled) : Type 0 where
     pub size : length a.1 ≡ bytes
-    pub none : (a.0 ≡ Path → ⊥) → Zeros bytes a.1
+    pub none : (a.0 ≡ Ok Path → ⊥) → Zeros bytes a.1
 
   zero-clean : (o : PathAnswer) → Clean (o, replicate bytes 0)
   zero-clean o = record { size = length-replicate {A = ℕ} bytes 0; none = λ h. refl }
 
   refused-clean : (r : Refusal) → Clean (refused_path bytes r)
   unfolding refused_path
-  refused-clean r = zero-clean (RefusedPath r)
+  refused-clean r = zero-clean (Err r)
 
-  left-clean : (p : CombinedPath) → length (path_octets p) ≤ bytes → (o : PathAnswer) → Clean (o, output_of o bytes p)
+  left-clean : (p : CombinedPath) → length (path_octets p) ≤ bytes → (o : Outcome) → Clean (Ok o, output_of o bytes p)
   left-clean p h Path = record { size = padded-length bytes (path_octets p) h; none = λ n. absurd (n refl) }
-  left-clean p h Loop = zero-clean Loop
-  left-clean p h Bare = zero-clean Bare
-  left-clean p h (RefusedPath r) = zero-clean (RefusedPath r)
+  left-clean p h Loop = zero-clean (Ok Loop)
+  left-clean p h Bare = zero-clean (Ok Bare)
 
   record-clean : (given : List ℕ) (cs : List (List Edge)) → ((c : List Edge) → Mem c cs → length (path_octets (combined_path b c)) ≤ bytes)
       → Clean (path_of_record b bytes given cs)
@@ -134,7 +128,7 @@ module _ (b : List ℕ) (bytes : ℕ) where
   unfolding assembly
   assembly-clean bs src dst given = go (verdict b) refl
     where
-      small : verdict b ≡ Accepted → (t : Bool) → ltb bytes path_size ≡ t
+      small : verdict b ≡ Ok tt → (t : Bool) → ltb bytes path_size ≡ t
           → Clean (if t then refused_path bytes Small else path_of_record b bytes given (chains b src dst))
       small ok true q = refused-clean Small
       small ok false q =
@@ -144,5 +138,5 @@ module _ (b : List ℕ) (bytes : ℕ) where
           omega (arith, h.path, ltb-false bytes path_size q))
 
       go : (v : Verdict) → verdict b ≡ v → Clean (assembly_on v b bytes given (chains b src dst))
-      go (RefusedBook r) q = refused-clean r
-      go Accepted q = small q (ltb bytes path_size) refl
+      go (Err r) q = refused-clean r
+      go (Ok tt) q = small q (ltb bytes path_size) refl

@@ -1,5 +1,6 @@
 -- Laws of lists that the library lacks.
 -- Assumes nothing.
+use Rattle.std.proofs.lemmas.List.{map-append}
 use Prim.Native.Nat.{ℕ, zero, suc, ◌+◌, ◌-◌}
 use native.Mathlib.Nat.{add-zero, zero-add}
 use native.Mathlib.Numerals.{add-one}
@@ -10,14 +11,10 @@ use lib.ListN.{length}
 use Rattle.spec.specs.Basics.{range}
 
 module _ {A B : Type 0} (f : A → B) where
-  pub map-append : (xs ys : List A) → map f (xs ++ ys) ≡ map f xs ++ map f ys
-  map-append [] ys = refl
-  map-append (x ∷ xs) ys = ap (λ l. f x ∷ l) (map-append xs ys)
-
   pub map-reverse : (xs : List A) → map f (reverse xs) ≡ reverse (map f xs)
   map-reverse [] = refl
   map-reverse (x ∷ xs) =
-      ap (map f) (reverse-cons x xs) ∙ map-append (reverse xs) (x ∷ []) ∙ ap (λ l. l ++ (f x ∷ [])) (map-reverse xs) ∙ sym (reverse-cons (f x) (map f xs))
+      ap (map f) (reverse-cons x xs) ∙ map-append f (reverse xs) (x ∷ []) ∙ ap (λ l. l ++ (f x ∷ [])) (map-reverse xs) ∙ sym (reverse-cons (f x) (map f xs))
 
 pub length-range : (i k : ℕ) → length (range i k) ≡ k
 unfolding range

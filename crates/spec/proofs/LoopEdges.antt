@@ -6,11 +6,7 @@ use mathlib.Core.Path.{◌≡◌, refl, sym, ap, ◌∙◌, subst}
 use mathlib.Core.Logic.{◌⊎◌, inl, inr, ⊎_elim}
 use mathlib.Core.Bool.{Bool, true, false}
 use mathlib.Core.List.Memᴰ
-use mathlib.Core.List.Memᴰ.{append_cases}
-use mathlib.Core.List.Memᴰ.{cases_cons}
-use mathlib.Core.List.Memᴰ.{head}
-use mathlib.Core.List.Memᴰ.{not-nil}
-use mathlib.Core.List.Memᴰ.{tail}
+use mathlib.Core.List.Memᴰ.{append_cases, cases_cons, head, not-nil, tail}
 use mathlib.Core.List.{List, [], ◌∷◌, ◌++◌, flat_map, reverse, Memᴰ as Mem}
 use lib.ListN.{length}
 use lib.Dec.{eqb}
@@ -19,8 +15,7 @@ use Rattle.spec.specs.declared.IsdAsn.{IsdAsn}
 use Rattle.spec.specs.declared.Vertex.{Vertex}
 use Rattle.spec.specs.declared.Vertex.TheVariants.{AS, Peering}
 use Rattle.spec.specs.declared.Edge.{Edge}
-use Rattle.spec.specs.declared.Verdict.TheVariants.{Accepted}
-use Rattle.std.specs.Prelude.{if◌then◌else◌}
+use Rattle.std.specs.Prelude.{Ok, if◌then◌else◌}
 use Rattle.spec.specs.Basics.{range}
 use Rattle.spec.specs.Book.{Segment, segment_count, segment_at, segments, verdict}
 use Rattle.spec.specs.Edges.{same_vertex, entry_of, as_of, leaf_as, peer_of, edge_of, add_core_segment, as_insertions, peer_insertions, entry_insertions, insertions, same_ends, stored_of}
@@ -370,7 +365,7 @@ module _ (seg : Segment) where
 
 -- ---- in an accepted book
 
-pub loopless : (b : List ℕ) → verdict b ≡ Accepted → {seg : Segment} → Mem seg (segments b) → Loopless seg
+pub loopless : (b : List ℕ) → verdict b ≡ Ok tt → {seg : Segment} → Mem seg (segments b) → Loopless seg
 unfolding segments
 loopless b ok {seg} m =
     let w = map-mem (segment_at b) (range 0 (segment_count b)) m in

@@ -4,11 +4,7 @@ use mathlib.Core.Path.{◌≡◌, refl, sym, ap, ◌∙◌, subst}
 use mathlib.Core.Logic.{◌⊎◌, inl, inr, ⊎_elim}
 use mathlib.Core.Bool.{Bool, true, false, ◌&&◌, true≢false, false≢true}
 use mathlib.Core.List.Memᴰ
-use mathlib.Core.List.Memᴰ.{append_cases}
-use mathlib.Core.List.Memᴰ.{cases_cons}
-use mathlib.Core.List.Memᴰ.{head}
-use mathlib.Core.List.Memᴰ.{not-nil}
-use mathlib.Core.List.Memᴰ.{tail}
+use mathlib.Core.List.Memᴰ.{append_cases, cases_cons, head, not-nil, tail}
 use mathlib.Core.List.{List, [], ◌∷◌, ◌++◌, map, flat_map, Memᴰ as Mem}
 use lib.Dec.{T}
 use Rattle.std.specs.Prelude.{if◌then◌else◌}
@@ -26,10 +22,6 @@ true-T t e = subst T (sym e) tt
 pub and-true : (s t : Bool) → (s && t) ≡ true → (s ≡ true) × (t ≡ true)
 and-true true t e = (refl, e)
 and-true false t e = absurd (false≢true e)
-
-pub true-and : (s t : Bool) → s ≡ true → t ≡ true → (s && t) ≡ true
-true-and true t p q = q
-true-and false t p q = absurd (false≢true p)
 
 pub not-both : {t : Bool} {A : Type 0} → t ≡ true → t ≡ false → A
 not-both p q = absurd (true≢false (sym p ∙ q))

@@ -1,5 +1,6 @@
 -- Stored edges, chains and solutions each stand once in their lists; the ordered list holds just the chains.
 -- Assumes nothing.
+use Rattle.std.proofs.lemmas.Bool.{and_from}
 use Prim.Native.Nat.{ℕ, zero, suc, ◌+◌, ◌-◌, ◌≤◌, ◌<◌, zero-le}
 use borrow.Author.Tests.{eqb-false}
 use native.Mathlib.Omega.{arith}
@@ -7,11 +8,7 @@ use mathlib.Core.Path.{◌≡◌, refl, sym, ap, ◌∙◌, subst}
 use mathlib.Core.Logic.{◌⊎◌, inl, inr, ⊎_elim}
 use mathlib.Core.Bool.{Bool, true, false, ◌||◌}
 use mathlib.Core.List.Memᴰ
-use mathlib.Core.List.Memᴰ.{append_cases}
-use mathlib.Core.List.Memᴰ.{cases_cons}
-use mathlib.Core.List.Memᴰ.{head}
-use mathlib.Core.List.Memᴰ.{not-nil}
-use mathlib.Core.List.Memᴰ.{tail}
+use mathlib.Core.List.Memᴰ.{append_cases, cases_cons, head, not-nil, tail}
 use mathlib.Core.List.{List, [], ◌∷◌, ◌++◌, map, flat_map, reverse, reverse-cons, Memᴰ as Mem, head-eq_of_cons-eq, tail-eq_of_cons-eq}
 use lib.ListN.{length}
 use lib.Dec.{eqb}
@@ -26,7 +23,7 @@ use Rattle.spec.specs.Book.{same_as, Segment, segment_at, segments, segment_coun
 use Rattle.spec.specs.Edges.{same_vertex, same_ends, in_construction, edge_of, add_core_segment, as_insertions, peer_insertions, entry_insertions, insertions, lasting, firsts, stored_of, stored_edges, entry_of, as_of, leaf_as}
 use Rattle.spec.specs.Chains.{allowed_kinds, IsChain, leaving, beginning, walks, chains}
 use Rattle.spec.specs.Order.{compare_chains, is_lt, insert, insert_all, solutions}
-use Rattle.spec.proofs.Membership.{not-both, true-and, filter-mem, map-mem, flat_map-mem, once-filter, once-map, once-flat_map}
+use Rattle.spec.proofs.Membership.{not-both, filter-mem, map-mem, flat_map-mem, once-filter, once-map, once-flat_map}
 use Rattle.spec.proofs.Vertices.{same_vertex-refl}
 use Rattle.spec.proofs.ChainLaws.{chains-sound, chains-complete}
 
@@ -70,7 +67,7 @@ lasting-mem (f ∷ later) {e} m = go (lasting-mem later) (any (same_ends f) late
 
 same-ends-refl : (e : Edge) → same_ends e e ≡ true
 unfolding same_ends
-same-ends-refl e = true-and _ _ (same_vertex-refl e.src) (same_vertex-refl e.dst)
+same-ends-refl e = and_from _ _ (same_vertex-refl e.src) (same_vertex-refl e.dst)
 
 pub once-lasting : (es : List Edge) → Once (lasting es)
 unfolding lasting

@@ -5,8 +5,7 @@ use native.Mathlib.Nat.{le_refl, pow-suc}
 use native.Mathlib.Omega.{arith}
 use mathlib.Core.Path.{◌≡◌, refl, sym, ap, ap₂, ◌∙◌}
 use mathlib.Core.Bool.{Bool, true, false}
-use mathlib.Core.List.Memᴰ.{head}
-use mathlib.Core.List.Memᴰ.{tail}
+use mathlib.Core.List.Memᴰ.{head, tail}
 use mathlib.Core.List.{List, [], ◌∷◌, ◌++◌, flat_map, Memᴰ as Mem}
 use lib.ListN.{length, drop, length-append}
 use lib.Dec.{ltb}
@@ -15,29 +14,25 @@ use Rattle.spec.specs.declared.IsdAsn.{IsdAsn}
 use Rattle.spec.specs.declared.Edge.{Edge}
 use Rattle.spec.specs.declared.Refusal.{Refusal}
 use Rattle.spec.specs.declared.Refusal.TheVariants.{Cut, Full}
-use Rattle.spec.specs.declared.Verdict.{Verdict}
-use Rattle.spec.specs.declared.Verdict.TheVariants.{Accepted, Refused as RefusedBook}
-use Rattle.spec.specs.declared.ListAnswer.{ListAnswer}
-use Rattle.spec.specs.declared.ListAnswer.TheVariants.{Count, Refused as RefusedList}
+use Rattle.std.specs.Prelude.{Ok, Err, if◌then◌else◌}
+use Rattle.spec.specs.Answers.{PathAnswer, ListAnswer, Assembled, refused_list, listing_of, listing_on, listing, assembly}
+use Rattle.spec.specs.Book.{Verdict, verdict, isd_asn_at}
 use Rattle.spec.specs.Limits.{max_slots, solution_size, path_size}
-use Rattle.std.specs.Prelude.{if◌then◌else◌}
 use Rattle.spec.specs.Basics.{filter, padded}
-use Rattle.spec.specs.Book.{verdict, isd_asn_at}
 use Rattle.spec.specs.Chains.{IsChain}
 use Rattle.spec.specs.Order.{cost, solutions}
 use Rattle.spec.specs.Assembly.{combined_path, outcome}
 use Rattle.spec.specs.Records.{solution_octets, slots}
-use Rattle.spec.specs.Answers.{Assembled, refused_list, listing_of, listing_on, listing, assembly}
 use Rattle.spec.specs.Printed.{decimal_in, decimal, hex, item, newline, lines_by, outcome_lines, solution_lines, solutions_lines, is_path, has_path, assembles, refused_line, list_lines, printed_on, printed}
 use Rattle.spec.proofs.OnceLaws.{solutions-sound}
 use Rattle.spec.proofs.AnswerLaws.{assembly-chain, first_of}
 
 -- ---- a solution's lines
 
-module _ (b : List ℕ) (src dst : IsdAsn) (ok : verdict b ≡ Accepted) (c : List Edge) (h : IsChain b src dst c) where
+module _ (b : List ℕ) (src dst : IsdAsn) (ok : verdict b ≡ Ok tt) (c : List Edge) (h : IsChain b src dst c) where
   -- the outcome of a chain is what assembly of its record answers
-  outcome-answer : outcome (combined_path b c) ≡ (assembly b src dst (solution_octets c) path_size).0
-  outcome-answer = first_of b path_size c ∙ sym (ap (λ (x : Assembled). x.0) (assembly-chain b src dst path_size ok (le_refl path_size) c h))
+  outcome-answer : ◌≡◌ {A = PathAnswer} (Ok (outcome (combined_path b c))) (assembly b src dst (solution_octets c) path_size).0
+  outcome-answer = sym (first_of b path_size c) ∙ sym (ap (λ (x : Assembled). x.0) (assembly-chain b src dst path_size ok (le_refl path_size) c h))
 
   path-assembles : has_path b c ≡ assembles b src dst c
   unfolding has_path assembles
@@ -62,7 +57,7 @@ filter_same p q (x ∷ xs) same =
 -- what listing answers on an accepted book, and what is printed there, by whether there are more solutions than slots
 module _ (b : List ℕ) (found : List (List Edge)) where
   abbrev answered : Bool → ListAnswer
-  answered more = if more then RefusedList Full else Count (length found)
+  answered more = if more then Err Full else Ok (length found)
 
   abbrev counted : ℕ → ℕ → List ℕ
   counted n paths = item "solutions " n ++ item " paths " paths ++ newline ++ solutions_lines b 1 found
@@ -75,15 +70,15 @@ module _ (b : List ℕ) (found : List (List Edge)) where
   listing-answered = go (ltb max_slots (length found))
     where
       go : (t : Bool)
-          → (if t then refused_list (max_slots * solution_size) Full else (Count (length found), padded (max_slots * solution_size) (flat_map solution_octets found))).0 ≡ answered t
+          → (if t then refused_list (max_slots * solution_size) Full else (Ok (length found), padded (max_slots * solution_size) (flat_map solution_octets found))).0 ≡ answered t
       go true = refl
       go false = refl
 
-  lines-refused : (r : Refusal) (t : Bool) → answered t ≡ RefusedList r → lines t ≡ refused_line r
+  lines-refused : (r : Refusal) (t : Bool) → answered t ≡ Err r → lines t ≡ refused_line r
   lines-refused r true q = cc
   lines-refused r false q = let z : ◌≡◌ {A = ℕ} 0 1 = cc in absurd (omega arith)
 
-  lines-counted : (n : ℕ) (t : Bool) → answered t ≡ Count n → lines t ≡ counted n (length (filter (has_path b) found))
+  lines-counted : (n : ℕ) (t : Bool) → answered t ≡ Ok n → lines t ≡ counted n (length (filter (has_path b) found))
   lines-counted n true q = let z : ◌≡◌ {A = ℕ} 0 1 = cc in absurd (omega arith)
   lines-counted n false q = cc
 
@@ -115,25 +110,25 @@ module _ (digest : List ℕ → List ℕ) (input : List ℕ) where
     printed-on = ap (λ t. if t then refused_line Cut else printed_on (verdict book) book found) (le-ltb (length input) 16 enough)
 
     -- what listing refuses is printed as that refusal
-    pub printed-refused : (r : Refusal) → (listing digest book src dst full).0 ≡ RefusedList r → printed digest input ≡ refused_line r
+    pub printed-refused : (r : Refusal) → (listing digest book src dst full).0 ≡ Err r → printed digest input ≡ refused_line r
     unfolding listing refused_list list_lines
     printed-refused r q = printed-on ∙ go (verdict book) q
       where
-        go : (v : Verdict) → (listing_on v full found).0 ≡ RefusedList r → printed_on v book found ≡ refused_line r
-        go (RefusedBook s) p = cc
-        go Accepted p = lines-refused book found r (ltb max_slots (length found)) (sym (listing-answered book found) ∙ p)
+        go : (v : Verdict) → (listing_on v full found).0 ≡ Err r → printed_on v book found ≡ refused_line r
+        go (Err s) p = cc
+        go (Ok tt) p = lines-refused book found r (ltb max_slots (length found)) (sym (listing-answered book found) ∙ p)
 
     -- what listing counts is printed: the count, the number of solutions whose record assembly answers with a path, and each solution's lines
-    pub printed-count : (n : ℕ) → (listing digest book src dst full).0 ≡ Count n
+    pub printed-count : (n : ℕ) → (listing digest book src dst full).0 ≡ Ok n
         → printed digest input
         ≡ item "solutions " n ++ item " paths " (length (filter (assembles book src dst) found)) ++ newline ++ solutions_lines book 1 found
     unfolding listing refused_list list_lines
     printed-count n q = printed-on ∙ go (verdict book) refl q
       where
-        go : (v : Verdict) → verdict book ≡ v → (listing_on v full found).0 ≡ Count n
+        go : (v : Verdict) → verdict book ≡ v → (listing_on v full found).0 ≡ Ok n
             → printed_on v book found ≡ counted book found n (length (filter (assembles book src dst) found))
-        go (RefusedBook s) ok p = let z : ◌≡◌ {A = ℕ} 0 1 = cc in absurd (omega arith)
-        go Accepted ok p =
+        go (Err s) ok p = let z : ◌≡◌ {A = ℕ} 0 1 = cc in absurd (omega arith)
+        go (Ok tt) ok p =
             lines-counted book found n (ltb max_slots (length found)) (sym (listing-answered book found) ∙ p)
             ∙ ap (λ cs. counted book found n (length cs))
             (filter_same (has_path book) (assembles book src dst) found (λ c m. path-assembles book src dst ok c (solutions-sound digest book src dst c m)))

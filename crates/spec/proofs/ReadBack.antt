@@ -6,11 +6,7 @@ use native.Mathlib.Omega.{arith}
 use mathlib.Core.Path.{◌≡◌, refl, sym, ap, ap₂, ◌∙◌, subst}
 use mathlib.Core.Logic.{⊎_elim}
 use mathlib.Core.Bool.{Bool, true, false}
-use mathlib.Core.List.Memᴰ.{append_cases}
-use mathlib.Core.List.Memᴰ.{eq_of_singleton}
-use mathlib.Core.List.Memᴰ.{head}
-use mathlib.Core.List.Memᴰ.{not-nil}
-use mathlib.Core.List.Memᴰ.{tail}
+use mathlib.Core.List.Memᴰ.{append_cases, eq_of_singleton, head, not-nil, tail}
 use mathlib.Core.List.{List, [], ◌∷◌, ◌++◌, map, flat_map, append_assoc, append-nil, Memᴰ as Mem, head-eq_of_cons-eq, tail-eq_of_cons-eq}
 use lib.ListN.{length, get_or, replicate, length-append, length-map, length-replicate}
 use Rattle.spec.specs.declared.IsdAsn.{IsdAsn}

@@ -5,9 +5,7 @@ use native.Mathlib.Omega.{arith}
 use mathlib.Core.Path.{◌≡◌, refl, sym, ap, ◌∙◌}
 use mathlib.Core.Logic.{⊎_elim}
 use mathlib.Core.Bool.{Bool, true, false, false≢true}
-use mathlib.Core.List.Memᴰ.{head}
-use mathlib.Core.List.Memᴰ.{not-nil}
-use mathlib.Core.List.Memᴰ.{tail}
+use mathlib.Core.List.Memᴰ.{head, not-nil, tail}
 use mathlib.Core.List.{List, [], ◌∷◌, map, flat_map, Memᴰ as Mem}
 use lib.ListN.{length, replicate, length-replicate}
 use lib.Dec.{ltb}
@@ -16,19 +14,16 @@ use Rattle.spec.specs.declared.IsdAsn.{IsdAsn}
 use Rattle.spec.specs.declared.Edge.{Edge}
 use Rattle.spec.specs.declared.Refusal.{Refusal}
 use Rattle.spec.specs.declared.Refusal.TheVariants.{Full}
-use Rattle.spec.specs.declared.Verdict.{Verdict}
-use Rattle.spec.specs.declared.Verdict.TheVariants.{Accepted, Refused as RefusedBook}
-use Rattle.spec.specs.declared.ListAnswer.TheVariants.{Count, Refused as RefusedList}
-use Rattle.spec.specs.declared.PathAnswer.{PathAnswer}
-use Rattle.spec.specs.declared.PathAnswer.TheVariants.{Path, Loop, Bare, Refused as RefusedPath}
+use Rattle.std.specs.Prelude.{Ok, Err, if◌then◌else◌}
+use Rattle.spec.specs.Answers.{Listed, refused_list, listing_of, listing_on, listing}
+use Rattle.spec.specs.Book.{Verdict, verdict}
+use Rattle.spec.specs.declared.Outcome.{Outcome}
+use Rattle.spec.specs.declared.Outcome.TheVariants.{Path, Loop, Bare}
 use Rattle.spec.specs.Limits.{solution_size}
-use Rattle.std.specs.Prelude.{if◌then◌else◌}
 use Rattle.spec.specs.Basics.{filter, padded}
-use Rattle.spec.specs.Book.{verdict}
 use Rattle.spec.specs.Order.{solutions}
 use Rattle.spec.specs.Assembly.{combined_path, outcome}
 use Rattle.spec.specs.Records.{solution_octets, slots}
-use Rattle.spec.specs.Answers.{Listed, refused_list, listing_of, listing_on, listing}
 use Rattle.spec.specs.Printed.{is_path, has_path}
 use Rattle.spec.proofs.Membership.{map-mem, filter-mem, mem-filter}
 use Rattle.spec.proofs.ChainLaws.{allowed-length}
@@ -42,53 +37,52 @@ use Rattle.spec.proofs.HoldingLaws.{all-keys, all-mem, all-few, Good, good, best
 
 -- ---- answers
 
-pub path-only : (o : PathAnswer) → is_path o ≡ true → o ≡ Path
+pub path-only : (o : Outcome) → is_path (Ok o) ≡ true → o ≡ Path
 path-only Path q = refl
 path-only Loop q = absurd (false≢true q)
 path-only Bare q = absurd (false≢true q)
-path-only (RefusedPath r) q = absurd (false≢true q)
 
 module _ (digest : List ℕ → List ℕ) (b : List ℕ) (src dst : IsdAsn) (bytes : ℕ) where
   abbrev found : List (List Edge)
   found = solutions digest b src dst
 
   abbrev listed_by : Bool → Listed
-  listed_by t = if t then (RefusedList Full, replicate bytes 0) else (Count (length found), padded bytes (flat_map solution_octets found))
+  listed_by t = if t then (Err Full, replicate bytes 0) else (Ok (length found), padded bytes (flat_map solution_octets found))
 
   abbrev routed-by : Bool → Listed
-  routed-by t = if t then (RefusedList Full, replicate bytes 0) else (Count (length (routes b found)), padded bytes (flat_map solution_octets (routes b found)))
+  routed-by t = if t then (Err Full, replicate bytes 0) else (Ok (length (routes b found)), padded bytes (flat_map solution_octets (routes b found)))
 
   -- refused where and as listing is, whatever the book
-  pub routing-refused : (r : Refusal) → (listing digest b src dst bytes).0 ≡ RefusedList r → routing digest b src dst bytes ≡ (RefusedList r, replicate bytes 0)
+  pub routing-refused : (r : Refusal) → (listing digest b src dst bytes).0 ≡ Err r → routing digest b src dst bytes ≡ (Err r, replicate bytes 0)
   unfolding listing routing listing_of routing_of refused_list
   routing-refused r = go (verdict b)
     where
-      by : (t : Bool) → (listed_by t).0 ≡ RefusedList r → routed-by t ≡ (RefusedList r, replicate bytes 0)
+      by : (t : Bool) → (listed_by t).0 ≡ Err r → routed-by t ≡ (Err r, replicate bytes 0)
       by true q = ap (λ x. (x, replicate bytes 0)) q
       by false q = let z : ◌≡◌ {A = ℕ} 0 1 = cc in absurd (omega arith)
 
-      go : (v : Verdict) → (listing_on v bytes found).0 ≡ RefusedList r → routing_on v bytes b found ≡ (RefusedList r, replicate bytes 0)
-      go (RefusedBook s) q = ap (λ x. (x, replicate bytes 0)) q
-      go Accepted q = by (ltb (slots bytes) (length found)) q
+      go : (v : Verdict) → (listing_on v bytes found).0 ≡ Err r → routing_on v bytes b found ≡ (Err r, replicate bytes 0)
+      go (Err s) q = ap (λ x. (x, replicate bytes 0)) q
+      go (Ok tt) q = by (ltb (slots bytes) (length found)) q
 
-  pub routing-counted : (n : ℕ) → (listing digest b src dst bytes).0 ≡ Count n → (routing digest b src dst bytes).0 ≡ Count (length (routes b (solutions digest b src dst)))
+  pub routing-counted : (n : ℕ) → (listing digest b src dst bytes).0 ≡ Ok n → (routing digest b src dst bytes).0 ≡ Ok (length (routes b (solutions digest b src dst)))
   unfolding listing routing listing_of routing_of refused_list
   routing-counted n = go (verdict b)
     where
-      by : (t : Bool) → (listed_by t).0 ≡ Count n → (routed-by t).0 ≡ Count (length (routes b found))
+      by : (t : Bool) → (listed_by t).0 ≡ Ok n → (routed-by t).0 ≡ Ok (length (routes b found))
       by true q = let z : ◌≡◌ {A = ℕ} 0 1 = cc in absurd (omega arith)
       by false q = refl
 
-      go : (v : Verdict) → (listing_on v bytes found).0 ≡ Count n → (routing_on v bytes b found).0 ≡ Count (length (routes b found))
-      go (RefusedBook s) q = let z : ◌≡◌ {A = ℕ} 0 1 = cc in absurd (omega arith)
-      go Accepted q = by (ltb (slots bytes) (length found)) q
+      go : (v : Verdict) → (listing_on v bytes found).0 ≡ Ok n → (routing_on v bytes b found).0 ≡ Ok (length (routes b found))
+      go (Err s) q = let z : ◌≡◌ {A = ℕ} 0 1 = cc in absurd (omega arith)
+      go (Ok tt) q = by (ltb (slots bytes) (length found)) q
 
-  pub routing-on : verdict b ≡ Accepted → length (solutions digest b src dst) ≤ slots bytes
-      → routing digest b src dst bytes ≡ (Count (length (routes b (solutions digest b src dst))), padded bytes (flat_map solution_octets (routes b (solutions digest b src dst))))
+  pub routing-on : verdict b ≡ Ok tt → length (solutions digest b src dst) ≤ slots bytes
+      → routing digest b src dst bytes ≡ (Ok (length (routes b (solutions digest b src dst))), padded bytes (flat_map solution_octets (routes b (solutions digest b src dst))))
   unfolding routing routing_of
   routing-on ok h =
       ap (λ v. routing_on v bytes b (solutions digest b src dst)) ok
-      ∙ ap (λ t. if t then refused_list bytes Full else (Count (length (routes b (solutions digest b src dst))), padded bytes (flat_map solution_octets (routes b (solutions digest b src dst)))))
+      ∙ ap (λ t. if t then refused_list bytes Full else (Ok (length (routes b (solutions digest b src dst))), padded bytes (flat_map solution_octets (routes b (solutions digest b src dst)))))
       (le-ltb (slots bytes) (length (solutions digest b src dst)) h)
 
 -- ---- none
@@ -169,23 +163,23 @@ module _ (digest : List ℕ → List ℕ) (b : List ℕ) (src dst : IsdAsn) (byt
           (omega (arith, records, slots-fit bytes, routes-few b all, ltb-false (slots bytes) (length all) q))
 
       go : (v : Verdict) → length (routing_on v bytes b all).1 ≡ bytes
-      go (RefusedBook r) = length-replicate {A = ℕ} bytes 0
-      go Accepted = by (ltb (slots bytes) (length all)) refl
+      go (Err r) = length-replicate {A = ℕ} bytes 0
+      go (Ok tt) = by (ltb (slots bytes) (length all)) refl
 
-  pub routing-zeros : (r : Refusal) → (routing digest b src dst bytes).0 ≡ RefusedList r → (routing digest b src dst bytes).1 ≡ replicate bytes 0
+  pub routing-zeros : (r : Refusal) → (routing digest b src dst bytes).0 ≡ Err r → (routing digest b src dst bytes).1 ≡ replicate bytes 0
   unfolding routing routing_of refused_list
   routing-zeros r = go (verdict b)
     where
-      by : (t : Bool) → (routed-by digest b src dst bytes t).0 ≡ RefusedList r → (routed-by digest b src dst bytes t).1 ≡ replicate bytes 0
+      by : (t : Bool) → (routed-by digest b src dst bytes t).0 ≡ Err r → (routed-by digest b src dst bytes t).1 ≡ replicate bytes 0
       by true q = refl
       by false q = let z : ◌≡◌ {A = ℕ} 0 1 = cc in absurd (omega arith)
 
-      go : (v : Verdict) → (routing_on v bytes b all).0 ≡ RefusedList r → (routing_on v bytes b all).1 ≡ replicate bytes 0
-      go (RefusedBook s) q = refl
-      go Accepted q = by (ltb (slots bytes) (length all)) q
+      go : (v : Verdict) → (routing_on v bytes b all).0 ≡ Err r → (routing_on v bytes b all).1 ≡ replicate bytes 0
+      go (Err s) q = refl
+      go (Ok tt) q = by (ltb (slots bytes) (length all)) q
 
 -- For every accepted book, every source and every destination.
-pub routes-hold : (digest : List ℕ → List ℕ) (b : List ℕ) → verdict b ≡ Accepted → (src dst : IsdAsn) → Routes digest b src dst
+pub routes-hold : (digest : List ℕ → List ℕ) (b : List ℕ) → verdict b ≡ Ok tt → (src dst : IsdAsn) → Routes digest b src dst
 unfolding flat_map
 routes-hold digest b ok src dst =
     record {
@@ -215,6 +209,6 @@ routes-hold digest b ok src dst =
     found = solutions digest b src dst
 
     none_left : (bytes : ℕ) (cs : List (List Edge)) → ((c : List Edge) → Mem c cs → has_path b c ≡ false)
-        → ◌≡◌ {A = Listed} (Count (length (routes b cs)), padded bytes (flat_map solution_octets (routes b cs))) (Count 0, replicate bytes 0)
+        → ◌≡◌ {A = Listed} (Ok (length (routes b cs)), padded bytes (flat_map solution_octets (routes b cs))) (Ok 0, replicate bytes 0)
     none_left bytes cs h =
-        ap (λ l. (Count (length l), padded bytes (flat_map solution_octets l))) (no-routes b cs h) ∙ ap (λ l. (Count 0, l)) (padded-none bytes)
+        ap (λ l. (Ok (length l), padded bytes (flat_map solution_octets l))) (no-routes b cs h) ∙ ap (λ l. (Ok 0, l)) (padded-none bytes)

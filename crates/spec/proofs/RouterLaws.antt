@@ -1,5 +1,6 @@
 -- The router's walk over one info and its hops holds, at each hop, the segment's id folded over the entries before it.
 -- Assumes nothing.
+use Rattle.std.proofs.lemmas.List.{map-append}
 use Prim.Native.Nat.{ℕ, zero, suc, ◌+◌, ◌-◌, ◌≤◌, ◌<◌}
 use native.Mathlib.Nat.{le_refl, add-zero}
 use native.Mathlib.Numerals.{add-one}
@@ -19,7 +20,7 @@ use Rattle.spec.specs.Book.{Segment}
 use Rattle.spec.specs.Edges.{entry_of, no_entry}
 use Rattle.spec.specs.Assembly.{fold_step, fold_macs, mac_of, id_below, stop_at, is_peer_hop, is_peer_edge, at_shortcut, hop_of, hop_count, used_entries, in_direction, hops_of, info_of}
 use Rattle.spec.specs.Router.{is_none, against, along, walk_info, is_along, hop_entry, hop_entries, id_held}
-use Rattle.spec.proofs.Lists.{map-append, map-reverse, reverse-range, range-up, range-down}
+use Rattle.spec.proofs.Lists.{map-reverse, reverse-range, range-up, range-down}
 use Rattle.spec.proofs.Membership.{not-both}
 use Rattle.spec.proofs.Xor.{xor-cancel}
 

@@ -1,6 +1,7 @@
 -- The tests of equal ASes and vertices decide equality.
 -- Assumes nothing.
 
+use Rattle.std.proofs.lemmas.Bool.{and_from}
 use mathlib.Core.Path.{◌≡◌, refl, ap, subst}
 use mathlib.Core.Bool.{true, ◌&&◌, false≢true}
 use lib.Dec.{eqb}
@@ -10,7 +11,7 @@ use Rattle.spec.specs.declared.Vertex.{Vertex}
 use Rattle.spec.specs.declared.Vertex.TheVariants.{AS, Peering}
 use Rattle.spec.specs.Book.{same_as}
 use Rattle.spec.specs.Edges.{same_vertex}
-use Rattle.spec.proofs.Membership.{and-true, true-and}
+use Rattle.spec.proofs.Membership.{and-true}
 
 pub same_as-eq : (a b : IsdAsn) → same_as a b ≡ true → a ≡ b
 unfolding same_as
@@ -39,7 +40,7 @@ pub same_vertex-refl : (v : Vertex) → same_vertex v v ≡ true
 unfolding same_vertex
 same_vertex-refl (AS a) = same_as-refl a
 same_vertex-refl (Peering l i p j) =
-    true-and _ _ (true-and _ _ (true-and _ _ (same_as-refl l) (eq-eqb i i refl)) (same_as-refl p)) (eq-eqb j j refl)
+    and_from _ _ (and_from _ _ (and_from _ _ (same_as-refl l) (eq-eqb i i refl)) (same_as-refl p)) (eq-eqb j j refl)
 
 pub eq-same_vertex : (v w : Vertex) → v ≡ w → same_vertex v w ≡ true
 eq-same_vertex v w q = subst (λ u. same_vertex v u ≡ true) q (same_vertex-refl v)

@@ -5,8 +5,7 @@ use native.Mathlib.Nat.{add-zero, zero-add, add_assoc, mul-suc, mul-zero}
 use native.Mathlib.Omega.{arith}
 use mathlib.Core.Path.{◌≡◌, refl, sym, ap, ap₂, ◌∙◌, subst}
 use mathlib.Core.Bool.{Bool, true, false}
-use mathlib.Core.List.Memᴰ.{head}
-use mathlib.Core.List.Memᴰ.{tail}
+use mathlib.Core.List.Memᴰ.{head, tail}
 use mathlib.Core.List.{List, [], ◌∷◌, ◌++◌, map, flat_map, append_assoc, append-nil, Memᴰ as Mem}
 use lib.ListN.{length, get_or, take, drop, replicate, length-append, length-map, get_or-append}
 use lib.Seq.{get_or-append-add, take_all, take-add}

@@ -4,8 +4,7 @@ use Prim.Native.Nat.{ℕ, zero, suc, ◌+◌, ◌-◌, ◌*◌, ◌%◌, ◌^◌
 use native.Mathlib.Omega.{arith}
 use mathlib.Core.Path.{◌≡◌, refl, sym, ap, ap₂, ◌∙◌, subst}
 use mathlib.Core.Bool.{Bool, true, false}
-use mathlib.Core.List.Memᴰ.{head}
-use mathlib.Core.List.Memᴰ.{tail}
+use mathlib.Core.List.Memᴰ.{head, tail}
 use mathlib.Core.List.{List, [], ◌∷◌, ◌++◌, map, flat_map, append-nil, Memᴰ as Mem}
 use lib.ListN.{length, take, replicate, length-append, length-map, length-replicate}
 use lib.Seq.{take_at}
@@ -17,11 +16,9 @@ use Rattle.spec.specs.declared.InfoField.{InfoField}
 use Rattle.spec.specs.declared.Edge.{Edge}
 use Rattle.spec.specs.declared.Refusal.{Refusal}
 use Rattle.spec.specs.declared.Refusal.TheVariants.{Small, Wire}
-use Rattle.spec.specs.declared.Verdict.TheVariants.{Accepted}
-use Rattle.spec.specs.declared.PathAnswer.TheVariants.{Path}
-use Rattle.spec.specs.declared.WireAnswer.TheVariants.{Count, Refused}
+use Rattle.std.specs.Prelude.{Ok, Err, if◌then◌else◌}
+use Rattle.spec.specs.declared.Outcome.TheVariants.{Path}
 use Rattle.spec.specs.Limits.{max_entries, path_head_size, info_size, hop_size, path_size, meta_size, wire_info_size, wire_hop_size, wire_size}
-use Rattle.std.specs.Prelude.{if◌then◌else◌}
 use Rattle.spec.specs.Basics.{range, sum, padded}
 use Rattle.spec.specs.Octets.{Bytes, be16, be32, be64, octets2, octets4, octets8}
 use Rattle.spec.specs.Book.{verdict, mac_at, isd_asn_at}
@@ -35,7 +32,7 @@ use Rattle.spec.specs.WireDemand.{front, Reversible, WireAgrees}
 use Rattle.spec.proofs.Bounds.{path-length, chain-bounds}
 use Rattle.spec.proofs.BookLaws.{accepted, Stored, stored}
 use Rattle.spec.proofs.PathLaws.{infos-back, hops-back, hops-length, good-infos, good-hops, router-agrees}
-use Rattle.spec.proofs.AnswerLaws.{assembly-chain, answer-by, first_of}
+use Rattle.spec.proofs.AnswerLaws.{assembly-chain, answer-by, outcome-is}
 use Rattle.spec.proofs.LengthLaws.{padded-length}
 use Rattle.spec.proofs.Membership.{map-mem}
 use Rattle.spec.proofs.WireTests.{writable, readable}
@@ -45,25 +42,25 @@ use Rattle.spec.proofs.WireForms.{Legal, flags-most, wire-infos, wire-hops, wire
 
 module _ (bytes room : ℕ) (refused : Bool) (xs : List ℕ) where
   abbrev by : Bool → Bool → Carried
-  by small odd = if small then refused_wire bytes Small else if odd then refused_wire bytes Wire else (Count (length xs), padded bytes xs)
+  by small odd = if small then refused_wire bytes Small else if odd then refused_wire bytes Wire else (Ok (length xs), padded bytes xs)
 
   -- what an answer that is no refusal says
   record Told (n : ℕ) : Type 0 where
     big : room ≤ bytes
     taken : refused ≡ false
     size : n ≡ length xs
-    answer : carried bytes room refused xs ≡ (Count (length xs), padded bytes xs)
+    answer : carried bytes room refused xs ≡ (Ok (length xs), padded bytes xs)
 
-  pub taken-by : room ≤ bytes → refused ≡ false → carried bytes room refused xs ≡ (Count (length xs), padded bytes xs)
+  pub taken-by : room ≤ bytes → refused ≡ false → carried bytes room refused xs ≡ (Ok (length xs), padded bytes xs)
   unfolding carried
   taken-by h q = ap₂ by (le-ltb bytes room h) q
 
-  told-by : (n : ℕ) → (carried bytes room refused xs).0 ≡ Count n → Told n
+  told-by : (n : ℕ) → (carried bytes room refused xs).0 ≡ Ok n → Told n
   unfolding carried refused_wire
   told-by n q = go (ltb bytes room) refused refl refl (λ s t e f. ap₂ by e f) q
     where
       go : (s t : Bool) → ltb bytes room ≡ s → refused ≡ t → ((s t : Bool) → ltb bytes room ≡ s → refused ≡ t → carried bytes room refused xs ≡ by s t)
-          → (by s t).0 ≡ Count n → Told n
+          → (by s t).0 ≡ Ok n → Told n
       go true t e f a q = let z : ◌≡◌ {A = ℕ} 0 1 = cc in absurd (omega arith)
       go false true e f a q = let z : ◌≡◌ {A = ℕ} 0 1 = cc in absurd (omega arith)
       go false false e f a q = record { big = ltb-false bytes room e; taken = f; size = let k : length xs ≡ n = cc in sym k; answer = a false false e f }
@@ -78,11 +75,11 @@ module _ (bytes room : ℕ) (refused : Bool) (xs : List ℕ) where
       go false true e f = length-replicate {A = ℕ} bytes 0
       go false false e f = padded-length bytes xs (omega (arith, ltb-false bytes room e, most f))
 
-  carried-refused : (r : Refusal) → (carried bytes room refused xs).0 ≡ Refused r → (carried bytes room refused xs).1 ≡ replicate bytes 0
+  carried-refused : (r : Refusal) → (carried bytes room refused xs).0 ≡ Err r → (carried bytes room refused xs).1 ≡ replicate bytes 0
   unfolding carried refused_wire
   carried-refused r q = go (ltb bytes room) refused q
     where
-      go : (s t : Bool) → (by s t).0 ≡ Refused r → (by s t).1 ≡ replicate bytes 0
+      go : (s t : Bool) → (by s t).0 ≡ Err r → (by s t).1 ≡ replicate bytes 0
       go true t q = refl
       go false true q = refl
       go false false q = let z : ◌≡◌ {A = ℕ} 0 1 = cc in absurd (omega arith)
@@ -137,7 +134,7 @@ module _ (is : List InfoField) (hs : List HopField) (legal : Legal is hs) where
   read_of = ap₂ (λ x y. path_octets (plain_path x y)) bare-infos bare-hops
 
 -- what the writer returns where it refuses nothing
-module _ (x : List ℕ) (has : writer_refuses x ≡ false → Legal (infos_in x) (hops_in x)) (n room : ℕ) (q : (writing x room).0 ≡ Count n) where
+module _ (x : List ℕ) (has : writer_refuses x ≡ false → Legal (infos_in x) (hops_in x)) (n room : ℕ) (q : (writing x room).0 ≡ Ok n) where
   written-told : Told room wire_size (writer_refuses x) (wire_of x) n
   unfolding writing
   written-told = told-by room wire_size (writer_refuses x) (wire_of x) n q
@@ -164,14 +161,14 @@ module _ (x : List ℕ) (has : writer_refuses x ≡ false → Legal (infos_in x)
   written-hops = ap wire_hops_in written-front ∙ bare-hops (infos_in x) (hops_in x) written-legal
 
   read_again : (m : ℕ) → path_size ≤ m
-      → reading (front n (writing x room)) m ≡ (Count (length (path_octets (plain_path (infos_in x) (hops_in x)))), padded m (path_octets (plain_path (infos_in x) (hops_in x))))
+      → reading (front n (writing x room)) m ≡ (Ok (length (path_octets (plain_path (infos_in x) (hops_in x)))), padded m (path_octets (plain_path (infos_in x) (hops_in x))))
   unfolding reading
   read_again m h =
       let is : List InfoField = infos_in x in
       let hs : List HopField = hops_in x in
       ap (λ w. carried m path_size (reader_refuses w) (record_of w)) written-front
       ∙ taken-by m path_size (reader_refuses (wire_octets is hs)) (record_of (wire_octets is hs)) h (legal-reads is hs written-legal)
-      ∙ ap (λ l. (Count (length l), padded m l)) (read_of is hs written-legal)
+      ∙ ap (λ l. (Ok (length l), padded m l)) (read_of is hs written-legal)
 
 -- and the reader
 module _ (x : List ℕ) (bytes : Bytes x) where
@@ -181,7 +178,7 @@ module _ (x : List ℕ) (bytes : Bytes x) where
   legal-wire : reader_refuses x ≡ false → Legal (wire_infos_in x) (wire_hops_in x)
   legal-wire q = readable-legal x bytes (readable x q)
 
-  module _ (n room : ℕ) (q : (reading x room).0 ≡ Count n) where
+  module _ (n room : ℕ) (q : (reading x room).0 ≡ Ok n) where
     read_told : Told room path_size (reader_refuses x) (record_of x) n
     unfolding reading
     read_told = told-by room path_size (reader_refuses x) (record_of x) n q
@@ -208,7 +205,7 @@ module _ (x : List ℕ) (bytes : Bytes x) where
         let e : length (record_of x) - length (record_of x) ≡ 0 = omega arith in
         sym (ap (λ k. record_of x ++ replicate k 0) e ∙ append-nil (record_of x))
 
-    write_again : (m : ℕ) → wire_size ≤ m → writing (record_of x) m ≡ (Count (length x), padded m x)
+    write_again : (m : ℕ) → wire_size ≤ m → writing (record_of x) m ≡ (Ok (length x), padded m x)
     unfolding writing wire_of record_of
     write_again m h =
         let is : List InfoField = wire_infos_in x in
@@ -216,7 +213,7 @@ module _ (x : List ℕ) (bytes : Bytes x) where
         let k : ℕ = length (record_of x) in
         ap (λ r. carried m wire_size (writer_refuses r) (wire_of r)) unpadded
         ∙ taken-by m wire_size (writer_refuses (padded k (record_of x))) (wire_of (padded k (record_of x))) h (plain-writes is hs read-legal k (omega arith))
-        ∙ ap (λ l. (Count (length l), padded m l))
+        ∙ ap (λ l. (Ok (length l), padded m l))
         (ap₂ wire_octets (plain-infos is hs read-legal k) (plain-hops is hs read-legal k) ∙ wire-again x bytes (readable x read_told.taken))
 
 -- ---- bytes
@@ -311,11 +308,11 @@ module _ (x : List ℕ) (bytes : ℕ) where
   unfolding reading record_of
   reading-length bs = carried-length bytes path_size (reader_refuses x) (record_of x) (λ q. plain_fits (wire_infos_in x) (wire_hops_in x) (legal-wire x bs q))
 
-  pub writing-zeros : (r : Refusal) → (writing x bytes).0 ≡ Refused r → (writing x bytes).1 ≡ replicate bytes 0
+  pub writing-zeros : (r : Refusal) → (writing x bytes).0 ≡ Err r → (writing x bytes).1 ≡ replicate bytes 0
   unfolding writing
   writing-zeros r q = carried-refused bytes wire_size (writer_refuses x) (wire_of x) r q
 
-  pub reading-zeros : (r : Refusal) → (reading x bytes).0 ≡ Refused r → (reading x bytes).1 ≡ replicate bytes 0
+  pub reading-zeros : (r : Refusal) → (reading x bytes).0 ≡ Err r → (reading x bytes).1 ≡ replicate bytes 0
   unfolding reading
   reading-zeros r q = carried-refused bytes path_size (reader_refuses x) (record_of x) r q
 
@@ -333,7 +330,7 @@ module _ (b : List ℕ) where
   hops-total (e ∷ c) =
       omega (arith, length-append (hops_on b e) (flat_map (hops_on b) c), hops-length (segment_of b e) e, hops-total c)
 
-  module _ (bytes : Bytes b) (ok : verdict b ≡ Accepted) (src dst : IsdAsn) (c : List Edge) (h : IsChain b src dst c) where
+  module _ (bytes : Bytes b) (ok : verdict b ≡ Ok tt) (src dst : IsdAsn) (c : List Edge) (h : IsChain b src dst c) where
     abbrev path : CombinedPath
     path = combined_path b c
 
@@ -375,30 +372,30 @@ module _ (b : List ℕ) where
 
       -- and what it writes leads a router by the ids of the segments
       pub chain-sent : (room : ℕ) → wire_size ≤ room
-          → (k : ℕ) × (k ≤ wire_size) × ((writing left room).0 ≡ Count k) × WireAgrees b c (front k (writing left room))
+          → (k : ℕ) × (k ≤ wire_size) × ((writing left room).0 ≡ Ok k) × WireAgrees b c (front k (writing left room))
       unfolding writing wire_router_ids router_ids
       chain-sent room r =
           let e = taken-by room wire_size (writer_refuses left) (wire_of left) r chain-writes in
           let k : ℕ = length (wire_of left) in
-          let q : (writing left room).0 ≡ Count k = ap (λ (x : Carried). x.0) e in
+          let q : (writing left room).0 ≡ Ok k = ap (λ (x : Carried). x.0) e in
           let i = written-infos left (λ _. left-legal) k room q in
           let j = written-hops left (λ _. left-legal) k room q in
           let a : RouterAgrees b c left = router-agrees b bytes c st n in
           (k, unfold wire_of in wire-fits (infos_in left) (hops_in left) left-legal, q, record { infos = ap (map shape_of) i ∙ a.infos; hops = j ∙ a.hops; held = ap₂ walk_infos i j ∙ a.held })
 
 -- what assembly leaves where it answers a path
-assembled : (b : List ℕ) → Bytes b → verdict b ≡ Accepted → (src dst : IsdAsn) (c : List Edge) → IsChain b src dst c → (bytes : ℕ) → path_size ≤ bytes
-    → (assembly b src dst (solution_octets c) bytes).0 ≡ Path → (assembly b src dst (solution_octets c) bytes).1 ≡ padded bytes (path_octets (combined_path b c))
+assembled : (b : List ℕ) → Bytes b → verdict b ≡ Ok tt → (src dst : IsdAsn) (c : List Edge) → IsChain b src dst c → (bytes : ℕ) → path_size ≤ bytes
+    → (assembly b src dst (solution_octets c) bytes).0 ≡ Ok Path → (assembly b src dst (solution_octets c) bytes).1 ≡ padded bytes (path_octets (combined_path b c))
 assembled b bs ok src dst c h bytes room q =
     let e : assembly b src dst (solution_octets c) bytes ≡ path_answer b bytes c = assembly-chain b src dst bytes ok room c h in
-    let o : outcome (combined_path b c) ≡ Path = first_of b bytes c ∙ sym (ap (λ (x : Assembled). x.0) e) ∙ q in
+    let o : outcome (combined_path b c) ≡ Path = outcome-is b bytes c Path (sym (ap (λ (x : Assembled). x.0) e) ∙ q) in
     ap (λ (x : Assembled). x.1) (e ∙ answer-by b bytes c Path o)
 
 -- a chain's path that assembly left is taken by the writer, and a router fed the bytes written, and nothing else, holds the segments' ids
-pub sent : (b : List ℕ) → Bytes b → verdict b ≡ Accepted → (src dst : IsdAsn) (c : List Edge) → IsChain b src dst c → (bytes room : ℕ) → path_size ≤ bytes → wire_size ≤ room
-    → (assembly b src dst (solution_octets c) bytes).0 ≡ Path
-    → (n : ℕ) × (n ≤ wire_size) × ((writing (assembly b src dst (solution_octets c) bytes).1 room).0 ≡ Count n)
+pub sent : (b : List ℕ) → Bytes b → verdict b ≡ Ok tt → (src dst : IsdAsn) (c : List Edge) → IsChain b src dst c → (bytes room : ℕ) → path_size ≤ bytes → wire_size ≤ room
+    → (assembly b src dst (solution_octets c) bytes).0 ≡ Ok Path
+    → (n : ℕ) × (n ≤ wire_size) × ((writing (assembly b src dst (solution_octets c) bytes).1 room).0 ≡ Ok n)
     × WireAgrees b c (front n (writing (assembly b src dst (solution_octets c) bytes).1 room))
 sent b bs ok src dst c h bytes room big enough q =
-    subst (λ (l : List ℕ). (n : ℕ) × (n ≤ wire_size) × ((writing l room).0 ≡ Count n) × WireAgrees b c (front n (writing l room)))
+    subst (λ (l : List ℕ). (n : ℕ) × (n ≤ wire_size) × ((writing l room).0 ≡ Ok n) × WireAgrees b c (front n (writing l room)))
     (sym (assembled b bs ok src dst c h bytes big q)) (chain-sent b bs ok src dst c h bytes big room enough)

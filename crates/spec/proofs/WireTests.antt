@@ -1,10 +1,11 @@
 -- What the writer and the reader accept, as facts about numbers.
 -- Assumes nothing.
+use Rattle.std.proofs.lemmas.Bool.{or_parts, or_from}
 use Prim.Native.Nat.{ℕ, zero, suc, ◌+◌, ◌*◌, ◌/◌, ◌%◌, ◌^◌, ◌≤◌, ◌<◌}
 use native.Mathlib.Decide.{dec_le}
 use native.Mathlib.Omega.{arith}
-use mathlib.Core.Path.{◌≡◌, refl, sym, ap, ap₂, ◌∙◌}
-use mathlib.Core.Bool.{Bool, true, false, ◌&&◌, ◌||◌, not, true≢false}
+use mathlib.Core.Path.{◌≡◌, refl, sym, ap, ◌∙◌}
+use mathlib.Core.Bool.{Bool, true, false, ◌&&◌, ◌||◌, not}
 use mathlib.Core.List.{List, map}
 use lib.ListN.{length, get_or}
 use lib.Dec.{eqb, ltb}
@@ -19,14 +20,10 @@ use Rattle.spec.specs.Wire.{current_info, current_hop, meta_reserved, segment_le
 -- ---- tests
 
 pub or-false : {s t : Bool} → (s || t) ≡ false → (s ≡ false) × (t ≡ false)
-or-false {s} {t} q = go s t q
-  where
-    go : (s t : Bool) → (s || t) ≡ false → (s ≡ false) × (t ≡ false)
-    go true t q = absurd (true≢false q)
-    go false t q = (refl, q)
+or-false {s} {t} q = or_parts s t q
 
 pub false-or : {s t : Bool} → s ≡ false → t ≡ false → (s || t) ≡ false
-false-or p q = ap₂ (λ a b. a || b) p q
+false-or {s} {t} p q = or_from s t p q
 
 -- a test that fails where the facts hold, and only there
 pub fails : {A : Type 0} (t : Bool) → (t ≡ false → A) → (A → ⊥) → t ≡ true

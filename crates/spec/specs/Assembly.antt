@@ -8,8 +8,8 @@ use Rattle.spec.specs.declared.HopField.{HopField}
 use Rattle.spec.specs.declared.InfoField.{InfoField}
 use Rattle.spec.specs.declared.PathInterface.{PathInterface}
 use Rattle.spec.specs.declared.Edge.{Edge}
-use Rattle.spec.specs.declared.PathAnswer.{PathAnswer}
-use Rattle.spec.specs.declared.PathAnswer.TheVariants.{Path, Loop, Bare}
+use Rattle.spec.specs.declared.Outcome.{Outcome}
+use Rattle.spec.specs.declared.Outcome.TheVariants.{Path, Loop, Bare}
 use Rattle.spec.specs.Limits.{max_time, max_mtu}
 use Rattle.spec.specs.Basics.{any, filter, range}
 use Rattle.spec.specs.Octets.{be16}
@@ -201,5 +201,5 @@ is_bare [] = true
 is_bare (i ∷ is) = false
 
 -- 6.10: the answer to a chain: its path, or Loop, or Bare
-unfoldable pub outcome : CombinedPath → PathAnswer
+unfoldable pub outcome : CombinedPath → Outcome
 outcome p = if is_loop p.interfaces then Loop else if is_bare p.interfaces then Bare else Path

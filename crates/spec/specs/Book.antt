@@ -1,15 +1,14 @@
 -- The book: its sizes and heads, the answer about it alone, and the segments that an accepted one holds.
--- Everything is read at its offset in the book's bytes: a name that ends in `Offset` is a place, one that ends in `At` a value read at a place.
+-- Everything is read at its offset in the book's bytes: a name that ends in `_offset` is a place, one that ends in `_at` a value read at a place.
 -- Assumes nothing.
-use Rattle.std.specs.Prelude.{ℕ, zero, suc, ◌+◌, ◌*◌, Bool, not, List, [], ◌∷◌, map, length, get_or, take, drop, ltb, eqb, if◌then◌else◌}
+use Rattle.std.specs.Prelude.{ℕ, zero, suc, ◌+◌, ◌*◌, Bool, not, List, [], ◌∷◌, map, length, get_or, take, drop, ltb, eqb, if◌then◌else◌, Result, Ok, Err, ⊤}
 use Rattle.spec.specs.declared.IsdAsn.{IsdAsn}
 use Rattle.spec.specs.declared.Sizes.{Sizes}
 use Rattle.spec.specs.declared.Head.{Head}
 use Rattle.spec.specs.declared.AsEntry.{AsEntry}
 use Rattle.spec.specs.declared.PeerEntry.{PeerEntry}
+use Rattle.spec.specs.declared.Refusal.{Refusal}
 use Rattle.spec.specs.declared.Refusal.TheVariants.{Cut, Surplus, Oversize, Crowded, Long, Peers, Misfit, Twice}
-use Rattle.spec.specs.declared.Verdict.{Verdict}
-use Rattle.spec.specs.declared.Verdict.TheVariants.{Accepted, Refused}
 use Rattle.spec.specs.Limits.{sizes_size, head_size, entry_size, peer_size, peer_count_offset, max_book, max_segments, max_entries, max_peers}
 use Rattle.spec.specs.Basics.{any, range}
 use Rattle.spec.specs.Octets.{be16, be32, be64}
@@ -96,22 +95,26 @@ local_at b k i = isd_asn_at b (entry_offset b (body_offset b k) i)
 
 -- ---- the answer about the book alone
 
+-- 9.1: accepted, or the refusal
+abbrev pub Verdict : Type 0
+Verdict = Result ⊤ Refusal
+
 -- 9.4: the entries of a body from an offset on, as many as are left; the body ends at `end`. At each entry: Misfit if its own bytes are
 -- lacking, Peers, Misfit if its peers are lacking; after the last entry Misfit if bytes remain
 unfoldable pub entries_verdict : List ℕ → ℕ → ℕ → ℕ → Verdict
-entries_verdict b end at zero = if ltb at end then Refused Misfit else Accepted
+entries_verdict b end at zero = if ltb at end then Err Misfit else Ok tt
 entries_verdict b end at (suc left) =
     let next = entries_verdict b end (entry_end b at) left in
-    if ltb end (at + entry_size) then Refused Misfit
-    else if ltb max_peers (peer_count b at) then Refused Peers
-    else if ltb end (entry_end b at) then Refused Misfit
+    if ltb end (at + entry_size) then Err Misfit
+    else if ltb max_peers (peer_count b at) then Err Peers
+    else if ltb end (entry_end b at) then Err Misfit
     else next
 
 -- 9.3: the first refusal of the two, if there is one
 infixr 6 ◌and_then◌
 abbrev pub ◌and_then◌ : Verdict → Verdict → Verdict
-Accepted and_then v = v
-(Refused r) and_then v = Refused r
+(Ok tt) and_then v = v
+(Err r) and_then v = Err r
 
 -- 9.4: entry j of the body at position k has the AS of entry i
 unfoldable pub has_local_of : List ℕ → ℕ → ℕ → ℕ → Bool
@@ -129,11 +132,11 @@ passes_twice b k = any (stands_earlier b k) (range 0 (entry_count_at b k))
 unfoldable pub body_verdict : List ℕ → ℕ → Verdict
 body_verdict b k =
     entries_verdict b (body_offset b k + body_length_at b k) (body_offset b k) (entry_count_at b k)
-    and_then (if passes_twice b k then Refused Twice else Accepted)
+    and_then (if passes_twice b k then Err Twice else Ok tt)
 
 -- 9.3: the bodies from position k on, as many as are left
 unfoldable pub bodies_verdict : List ℕ → ℕ → ℕ → Verdict
-bodies_verdict b k zero = Accepted
+bodies_verdict b k zero = Ok tt
 bodies_verdict b k (suc left) = body_verdict b k and_then bodies_verdict b (k + 1) left
 
 -- 9.3: the head at position k has an entry count above the limit
@@ -147,13 +150,13 @@ too_long b = any (is_long b) (range 0 (segment_count b))
 -- 2.7, 9.3: the tests in their order; a book is accepted where none fails
 unfoldable pub verdict : List ℕ → Verdict
 verdict b =
-    if ltb max_book (length b) then Refused Oversize
-    else if ltb (length b) sizes_size then Refused Cut
-    else if ltb max_segments (segment_count b) then Refused Crowded
-    else if ltb (length b) (whole_length b) then Refused Cut
-    else if ltb (whole_length b) (length b) then Refused Surplus
-    else if too_long b then Refused Long
-    else if not (eqb (lengths_below b (segment_count b)) (body_total b)) then Refused Misfit
+    if ltb max_book (length b) then Err Oversize
+    else if ltb (length b) sizes_size then Err Cut
+    else if ltb max_segments (segment_count b) then Err Crowded
+    else if ltb (length b) (whole_length b) then Err Cut
+    else if ltb (whole_length b) (length b) then Err Surplus
+    else if too_long b then Err Long
+    else if not (eqb (lengths_below b (segment_count b)) (body_total b)) then Err Misfit
     else bodies_verdict b 0 (segment_count b)
 
 -- ---- the segments

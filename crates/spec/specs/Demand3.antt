@@ -2,12 +2,11 @@
 -- assembled path alone holds the right ids.
 -- Assumes nothing.
 use Prim.Native.Nat.{Ordering}
-use Rattle.std.specs.Prelude.{ℕ, ◌≤◌, ◌<◌, true, false, length, replicate, ◌≡◌}
+use Rattle.std.specs.Prelude.{ℕ, ◌≤◌, ◌<◌, true, false, length, replicate, ◌≡◌, Ok, Err}
 use mathlib.Core.List.{List, [], ◌∷◌, flat_map, Memᴰ}
 use Rattle.spec.specs.declared.IsdAsn.{IsdAsn}
 use Rattle.spec.specs.declared.Edge.{Edge}
-use Rattle.spec.specs.declared.PathAnswer.TheVariants.{Path, Loop, Bare, Refused as RefusedPath}
-use Rattle.spec.specs.declared.ListAnswer.TheVariants.{Count, Refused as RefusedList}
+use Rattle.spec.specs.declared.Outcome.TheVariants.{Path, Loop, Bare}
 use Rattle.spec.specs.declared.Refusal.TheVariants.{Full, Stranger}
 use Rattle.spec.specs.Basics.{padded, Once}
 use Rattle.spec.specs.Assembly.{combined_path, is_loop, is_bare}
@@ -33,19 +32,19 @@ pub record Demand3 (digest : List ℕ → List ℕ) (b : List ℕ) (src dst : Is
   pub ordered : InOrder digest b (solutions digest b src dst)
   -- with a slot for every chain, their count and their records, in the order; with fewer slots, Full
   pub listed : (bytes : ℕ) → length (solutions digest b src dst) ≤ slots bytes
-      → listing digest b src dst bytes ≡ (Count (length (solutions digest b src dst)), padded bytes (flat_map solution_octets (solutions digest b src dst)))
-  pub full : (bytes : ℕ) → slots bytes < length (solutions digest b src dst) → listing digest b src dst bytes ≡ (RefusedList Full, replicate bytes 0)
+      → listing digest b src dst bytes ≡ (Ok (length (solutions digest b src dst)), padded bytes (flat_map solution_octets (solutions digest b src dst)))
+  pub full : (bytes : ℕ) → slots bytes < length (solutions digest b src dst) → listing digest b src dst bytes ≡ (Err Full, replicate bytes 0)
   -- assembly of a chain's record gives its path, save just where that is Loop or Bare
   pub path : (c : List Edge) → IsChain b src dst c → (bytes : ℕ) → path_size ≤ bytes
       → is_loop (combined_path b c).interfaces ≡ false → is_bare (combined_path b c).interfaces ≡ false
-      → assembly b src dst (solution_octets c) bytes ≡ (Path, padded bytes (path_octets (combined_path b c)))
+      → assembly b src dst (solution_octets c) bytes ≡ (Ok Path, padded bytes (path_octets (combined_path b c)))
   pub loop : (c : List Edge) → IsChain b src dst c → (bytes : ℕ) → path_size ≤ bytes
-      → is_loop (combined_path b c).interfaces ≡ true → assembly b src dst (solution_octets c) bytes ≡ (Loop, replicate bytes 0)
+      → is_loop (combined_path b c).interfaces ≡ true → assembly b src dst (solution_octets c) bytes ≡ (Ok Loop, replicate bytes 0)
   pub bare : (c : List Edge) → IsChain b src dst c → (bytes : ℕ) → path_size ≤ bytes
-      → is_bare (combined_path b c).interfaces ≡ true → assembly b src dst (solution_octets c) bytes ≡ (Bare, replicate bytes 0)
+      → is_bare (combined_path b c).interfaces ≡ true → assembly b src dst (solution_octets c) bytes ≡ (Ok Bare, replicate bytes 0)
   -- what is no chain's record is a stranger's
   pub stranger : (given : List ℕ) → ((c : List Edge) → IsChain b src dst c → given ≡ solution_octets c → ⊥) → (bytes : ℕ) → path_size ≤ bytes
-      → assembly b src dst given bytes ≡ (RefusedPath Stranger, replicate bytes 0)
+      → assembly b src dst given bytes ≡ (Err Stranger, replicate bytes 0)
   -- and a path that it answers is the one that a router needs
   pub routed : (c : List Edge) → IsChain b src dst c → (bytes : ℕ) → path_size ≤ bytes
-      → (assembly b src dst (solution_octets c) bytes).0 ≡ Path → RouterAgrees b c (assembly b src dst (solution_octets c) bytes).1
+      → (assembly b src dst (solution_octets c) bytes).0 ≡ Ok Path → RouterAgrees b c (assembly b src dst (solution_octets c) bytes).1

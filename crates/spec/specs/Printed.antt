@@ -1,6 +1,6 @@
 -- What the program prints for its standard input: source 8, destination 8, then the book.
 -- Assumes nothing.
-use Rattle.std.specs.Prelude.{ℕ, zero, suc, ◌+◌, ◌*◌, ◌/◌, ◌%◌, ◌^◌, Bool, true, false, length, drop, ltb, if◌then◌else◌}
+use Rattle.std.specs.Prelude.{ℕ, zero, suc, ◌+◌, ◌*◌, ◌/◌, ◌%◌, ◌^◌, Bool, true, false, length, drop, ltb, if◌then◌else◌, Ok, Err}
 use Prim.Native.Char.{code}
 use Prim.Native.String.{String}
 use mathlib.Core.List.{List, [], ◌∷◌, ◌++◌, flat_map}
@@ -9,18 +9,15 @@ use Rattle.spec.specs.declared.InfoField.{InfoField}
 use Rattle.spec.specs.declared.PathInterface.{PathInterface}
 use Rattle.spec.specs.declared.Edge.{Edge}
 use Rattle.spec.specs.declared.Refusal.{Refusal}
-use Rattle.spec.specs.declared.PathAnswer.{PathAnswer}
-use Rattle.spec.specs.declared.PathAnswer.TheVariants.{Path, Loop, Bare, Refused as RefusedPath}
+use Rattle.spec.specs.Answers.{PathAnswer, refusal_number, assembly}
+use Rattle.spec.specs.Book.{Verdict, verdict, isd_asn_at}
+use Rattle.spec.specs.declared.Outcome.TheVariants.{Path, Loop, Bare}
 use Rattle.spec.specs.declared.Refusal.TheVariants.{Cut, Full}
-use Rattle.spec.specs.declared.Verdict.{Verdict}
-use Rattle.spec.specs.declared.Verdict.TheVariants.{Accepted, Refused}
 use Rattle.spec.specs.Limits.{max_slots, path_size}
 use Rattle.spec.specs.Basics.{filter}
-use Rattle.spec.specs.Book.{verdict, isd_asn_at}
 use Rattle.spec.specs.Order.{cost, solutions}
 use Rattle.spec.specs.Assembly.{CombinedPath, combined_path, outcome}
 use Rattle.spec.specs.Records.{bit, solution_octets}
-use Rattle.spec.specs.Answers.{refusal_number, assembly}
 
 -- ---- text
 
@@ -75,13 +72,13 @@ path_lines p =
 
 -- 10.4: the named fields, or in their place only loop or bare, with no lines below
 abbrev pub lines_by : PathAnswer → CombinedPath → List ℕ
-lines_by Path p = path_lines p
-lines_by Loop p = ascii " loop" ++ newline
-lines_by Bare p = ascii " bare" ++ newline
-lines_by (RefusedPath r) p = []
+lines_by (Ok Path) p = path_lines p
+lines_by (Ok Loop) p = ascii " loop" ++ newline
+lines_by (Ok Bare) p = ascii " bare" ++ newline
+lines_by (Err r) p = []
 
 unfoldable pub outcome_lines : CombinedPath → List ℕ
-outcome_lines p = lines_by (outcome p) p
+outcome_lines p = lines_by (Ok (outcome p)) p
 
 -- 10.4: its number, cost, edges, then the named fields, or loop or bare
 unfoldable pub solution_lines : List ℕ → ℕ → List Edge → List ℕ
@@ -95,13 +92,13 @@ solutions_lines b number (c ∷ cs) = solution_lines b number c ++ solutions_lin
 
 -- 10.3: the solution has a path
 abbrev pub is_path : PathAnswer → Bool
-is_path Path = true
-is_path Loop = false
-is_path Bare = false
-is_path (RefusedPath r) = false
+is_path (Ok Path) = true
+is_path (Ok Loop) = false
+is_path (Ok Bare) = false
+is_path (Err r) = false
 
 unfoldable pub has_path : List ℕ → List Edge → Bool
-has_path b c = is_path (outcome (combined_path b c))
+has_path b c = is_path (Ok (outcome (combined_path b c)))
 
 -- 10.3: assembly of the chain's record, into a buffer that holds any path, answers a path
 unfoldable pub assembles : List ℕ → IsdAsn → IsdAsn → List Edge → Bool
@@ -120,8 +117,8 @@ list_lines b found =
 
 -- 10.1: by the tests of the book
 abbrev pub printed_on : Verdict → List ℕ → List (List Edge) → List ℕ
-printed_on Accepted b found = list_lines b found
-printed_on (Refused r) b found = refused_line r
+printed_on (Ok tt) b found = list_lines b found
+printed_on (Err r) b found = refused_line r
 
 -- 10.1: under 16 bytes is Cut
 unfoldable pub printed : (List ℕ → List ℕ) → List ℕ → List ℕ

@@ -1,13 +1,12 @@
 -- What the list of routes is, as a statement over listing, assembly and routing.
 -- Assumes nothing.
-use Rattle.std.specs.Prelude.{ℕ, ◌≤◌, ◌<◌, ◌≡◌, true, false, length, replicate, if◌then◌else◌}
+use Rattle.std.specs.Prelude.{ℕ, ◌≤◌, ◌<◌, ◌≡◌, true, false, length, replicate, if◌then◌else◌, Ok, Err}
 use mathlib.Core.List.{List, [], ◌∷◌, ◌++◌, map, flat_map, Memᴰ}
 use Rattle.spec.specs.declared.IsdAsn.{IsdAsn}
 use Rattle.spec.specs.declared.Edge.{Edge}
 use Rattle.spec.specs.declared.PathInterface.{PathInterface}
 use Rattle.spec.specs.declared.Refusal.{Refusal}
-use Rattle.spec.specs.declared.ListAnswer.TheVariants.{Count, Refused as RefusedList}
-use Rattle.spec.specs.declared.PathAnswer.TheVariants.{Path}
+use Rattle.spec.specs.declared.Outcome.TheVariants.{Path}
 use Rattle.spec.specs.Limits.{path_size}
 use Rattle.spec.specs.Basics.{any, padded, Once}
 use Rattle.spec.specs.Order.{solutions}
@@ -47,14 +46,14 @@ module _ (digest : List ℕ → List ℕ) (b : List ℕ) (src dst : IsdAsn) wher
 
   pub record Routes : Type 0 where
     -- with a slot for every chain, their count and their records
-    pub answered : (bytes : ℕ) → length found ≤ slots bytes → routing digest b src dst bytes ≡ (Count (length held), padded bytes (flat_map solution_octets held))
+    pub answered : (bytes : ℕ) → length found ≤ slots bytes → routing digest b src dst bytes ≡ (Ok (length held), padded bytes (flat_map solution_octets held))
     -- a refusal is listing's, and so is no refusal
-    pub refused : (bytes : ℕ) (r : Refusal) → (listing digest b src dst bytes).0 ≡ RefusedList r → routing digest b src dst bytes ≡ (RefusedList r, replicate bytes 0)
-    pub counted : (bytes n : ℕ) → (listing digest b src dst bytes).0 ≡ Count n → (routing digest b src dst bytes).0 ≡ Count (length held)
+    pub refused : (bytes : ℕ) (r : Refusal) → (listing digest b src dst bytes).0 ≡ Err r → routing digest b src dst bytes ≡ (Err r, replicate bytes 0)
+    pub counted : (bytes n : ℕ) → (listing digest b src dst bytes).0 ≡ Ok n → (routing digest b src dst bytes).0 ≡ Ok (length held)
     -- each is a solution, and assembles to a path
     pub listed : (c : List Edge) → Memᴰ c held → Memᴰ c found
     pub path : (c : List Edge) → Memᴰ c held → (bytes : ℕ) → path_size ≤ bytes
-        → assembly b src dst (solution_octets c) bytes ≡ (Path, padded bytes (path_octets (combined_path b c)))
+        → assembly b src dst (solution_octets c) bytes ≡ (Ok Path, padded bytes (path_octets (combined_path b c)))
     -- no list of interfaces stands twice
     pub apart : Once (map (route_of b) held)
     -- every solution with a path has its list of interfaces there, with an expiry that is no less
@@ -64,5 +63,5 @@ module _ (digest : List ℕ → List ℕ) (b : List ℕ) (src dst : IsdAsn) wher
     pub places : map (route_of b) held ≡ appearances [] (map (route_of b) (with_path b found))
     pub best : (c : List Edge) → Memᴰ c held → Best (route_of b) (lasts_to b) (with_path b found) c
     -- with no path, and with two equal ends, there is none
-    pub none : ((c : List Edge) → Memᴰ c found → has_path b c ≡ false) → (bytes : ℕ) → length found ≤ slots bytes → routing digest b src dst bytes ≡ (Count 0, replicate bytes 0)
-    pub equal : src ≡ dst → (bytes : ℕ) → routing digest b src dst bytes ≡ (Count 0, replicate bytes 0)
+    pub none : ((c : List Edge) → Memᴰ c found → has_path b c ≡ false) → (bytes : ℕ) → length found ≤ slots bytes → routing digest b src dst bytes ≡ (Ok 0, replicate bytes 0)
+    pub equal : src ≡ dst → (bytes : ℕ) → routing digest b src dst bytes ≡ (Ok 0, replicate bytes 0)

@@ -1,16 +1,13 @@
 -- Routes: of the solutions that have a path, one for each list of interfaces, the longest-lived, at the place of the route's first.
 -- Assumes nothing.
-use Rattle.std.specs.Prelude.{ℕ, Bool, true, false, ◌&&◌, length, eqb, ltb, if◌then◌else◌}
+use Rattle.std.specs.Prelude.{ℕ, Bool, true, false, ◌&&◌, length, eqb, ltb, if◌then◌else◌, Ok, Err}
 use mathlib.Core.List.{List, [], ◌∷◌, flat_map}
 use Rattle.spec.specs.declared.IsdAsn.{IsdAsn}
 use Rattle.spec.specs.declared.Edge.{Edge}
 use Rattle.spec.specs.declared.PathInterface.{PathInterface}
 use Rattle.spec.specs.declared.Refusal.TheVariants.{Full}
-use Rattle.spec.specs.declared.Verdict.{Verdict}
-use Rattle.spec.specs.declared.Verdict.TheVariants.{Accepted, Refused as RefusedBook}
-use Rattle.spec.specs.declared.ListAnswer.TheVariants.{Count}
+use Rattle.spec.specs.Book.{Verdict, same_as, verdict}
 use Rattle.spec.specs.Basics.{filter, padded}
-use Rattle.spec.specs.Book.{same_as, verdict}
 use Rattle.spec.specs.Order.{solutions}
 use Rattle.spec.specs.Assembly.{combined_path}
 use Rattle.spec.specs.Records.{solution_octets, slots}
@@ -67,11 +64,11 @@ module _ (b : List ℕ) where
 unfoldable pub routing_of : ℕ → List ℕ → List (List Edge) → Listed
 routing_of bytes b found =
     if ltb (slots bytes) (length found) then refused_list bytes Full
-    else (Count (length (routes b found)), padded bytes (flat_map solution_octets (routes b found)))
+    else (Ok (length (routes b found)), padded bytes (flat_map solution_octets (routes b found)))
 
 abbrev pub routing_on : Verdict → ℕ → List ℕ → List (List Edge) → Listed
-routing_on Accepted bytes b found = routing_of bytes b found
-routing_on (RefusedBook r) bytes b found = refused_list bytes r
+routing_on (Ok tt) bytes b found = routing_of bytes b found
+routing_on (Err r) bytes b found = refused_list bytes r
 
 unfoldable pub routing : (List ℕ → List ℕ) → List ℕ → IsdAsn → IsdAsn → ℕ → Listed
 routing digest b src dst bytes = routing_on (verdict b) bytes b (solutions digest b src dst)

@@ -1,14 +1,12 @@
 -- The data draft's standard path, from its layout: its bytes read as infos and hops, written of a path record, and read into one. All numbers are
 -- big-endian: the meta header is one of 32 bits, whose fields stand from its high end down.
 -- Assumes nothing.
-use Rattle.std.specs.Prelude.{ℕ, ◌+◌, ◌-◌, ◌*◌, ◌/◌, ◌%◌, ◌^◌, Bool, ◌||◌, ◌&&◌, not, length, get_or, replicate, eqb, ltb, if◌then◌else◌}
+use Rattle.std.specs.Prelude.{ℕ, ◌+◌, ◌-◌, ◌*◌, ◌/◌, ◌%◌, ◌^◌, Bool, ◌||◌, ◌&&◌, not, length, get_or, replicate, eqb, ltb, if◌then◌else◌, Result, Ok, Err}
 use mathlib.Core.List.{List, [], ◌∷◌, ◌++◌, map, flat_map}
 use Rattle.spec.specs.declared.HopField.{HopField}
 use Rattle.spec.specs.declared.InfoField.{InfoField}
 use Rattle.spec.specs.declared.Refusal.{Refusal}
 use Rattle.spec.specs.declared.Refusal.TheVariants.{Small, Wire}
-use Rattle.spec.specs.declared.WireAnswer.{WireAnswer}
-use Rattle.spec.specs.declared.WireAnswer.TheVariants.{Count, Refused}
 use Rattle.spec.specs.Limits.{max_edges, max_entries, path_head_size, info_size, hop_size, interface_size, path_size, meta_size, wire_info_size, wire_hop_size, wire_size}
 use Rattle.spec.specs.Basics.{any, range, sum, padded}
 use Rattle.spec.specs.Octets.{be16, be32, octets2, octets4}
@@ -170,10 +168,14 @@ record_of w = path_octets (plain_path (wire_infos_in w) (wire_hops_in w))
 
 -- ---- answers; `bytes` is the output's length
 
--- 9.8: the count of bytes, or a refusal, as the number that is returned
+-- 9.1: the writer's and the reader's answer: the count of bytes, or a refusal
+abbrev pub WireAnswer : Type 0
+WireAnswer = Result ℕ Refusal
+
+-- 9.8: the same as the number that is returned
 abbrev pub wire_number : WireAnswer → ℕ
-wire_number (Count n) = n
-wire_number (Refused r) = refusals + refusal_number r
+wire_number (Ok n) = n
+wire_number (Err r) = refusals + refusal_number r
 
 -- 9.1: an answer, and the bytes that the output then holds
 abbrev pub Carried : Type 0
@@ -181,14 +183,14 @@ Carried = WireAnswer × List ℕ
 
 -- 9.7: a refusal leaves the output zero
 unfoldable pub refused_wire : ℕ → Refusal → Carried
-refused_wire bytes r = (Refused r, replicate bytes 0)
+refused_wire bytes r = (Err r, replicate bytes 0)
 
 -- 15.7: Small where the output is under `room` bytes, then Wire where the input is refused; else the count of the bytes, and they
 unfoldable pub carried : ℕ → ℕ → Bool → List ℕ → Carried
 carried bytes room refused xs =
     if ltb bytes room then refused_wire bytes Small
     else if refused then refused_wire bytes Wire
-    else (Count (length xs), padded bytes xs)
+    else (Ok (length xs), padded bytes xs)
 
 -- 15.7: the writer and the reader, on every input
 unfoldable pub writing : List ℕ → ℕ → Carried

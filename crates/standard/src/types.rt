@@ -6,5 +6,5 @@ ghost use Rattle.spec.specs.Assembly.{life};
 pub fn exp_time_to_duration(units: u8) -> u32
     ensures { result ≡ life units }
 {
-    ((units as u32) + 1) * 675 / 2
+    (u32::from(units) + 1) * 675 / 2
 }

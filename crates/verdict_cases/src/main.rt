@@ -3,7 +3,7 @@
 // worked out by hand from docs/SPECIFICATION.md 9.3 and 9.4. All that a book does not state is zero.
 #![tactic(auto)]
 
-use spec::{AsEntry, Head, HopField, IsdAsn, Limits, PeerEntry, Sizes, Verdict};
+use spec::{AsEntry, Head, HopField, IsdAsn, Limits, PeerEntry, Refusal, Sizes};
 use std::io;
 
 // Room for every book: a byte more than the limit.
@@ -19,10 +19,10 @@ const ENTRIES: u16 = Limits::ENTRIES as u16;
 
 const PEERS: u8 = Limits::PEERS as u8;
 
-fn number(v: Verdict) -> u64 {
-    match v {
-        Verdict::Accepted => 0,
-        Verdict::Refused(r) => r.number() as u64,
+fn number(verdict: Result<(), Refusal>) -> u64 {
+    match verdict {
+        Ok(()) => 0,
+        Err(r) => u64::from(r.number()),
     }
 }
 
@@ -40,6 +40,25 @@ fn answer(rt: &impl Print, book: &[u8], length: usize) -> io::Result<()> {
     rt.write_all(b"\n")
 }
 
+// The answer about the first `length` bytes of a book of sizes, heads and entries, one after the other, and zeros.
+fn case(
+    rt: &impl Print,
+    sizes: Sizes,
+    heads: &[Head],
+    entries: &[AsEntry],
+    length: usize,
+) -> io::Result<()> {
+    let mut book = [0u8; ROOM];
+    let mut at = builder::put_sizes(&mut book, 0, sizes);
+    for head in heads {
+        at = builder::put_head(&mut book, at, *head);
+    }
+    for entry in entries {
+        at = builder::put_entry(&mut book, at, *entry);
+    }
+    answer(rt, &book, length)
+}
+
 // ---- sizes alone
 
 // The length of a book with the most segments, of empty bodies, and with one more.
@@ -49,9 +68,9 @@ const OVER: usize = MOST + Head::SIZE;
 
 fn sizes(cores: u16, others: u16, bodies: u32) -> Sizes {
     Sizes {
-        cores: cores,
-        others: others,
-        bodies: bodies,
+        cores,
+        others,
+        bodies,
     }
 }
 
@@ -63,10 +82,8 @@ fn sized(
     bodies: u32,
     length: usize,
 ) -> io::Result<()> {
-    let mut book = [0u8; ROOM];
-    builder::put_sizes(&mut book, 0, sizes(cores, others, bodies));
     say(rt, label)?;
-    answer(rt, &book, length)
+    case(rt, sizes(cores, others, bodies), &[], &[], length)
 }
 
 fn lengths(rt: &impl Print) -> io::Result<()> {
@@ -97,8 +114,8 @@ fn head(entries: u16, body: u16) -> Head {
     Head {
         timestamp: 0,
         id: 0,
-        entries: entries,
-        body: body,
+        entries,
+        body,
     }
 }
 
@@ -128,18 +145,21 @@ fn segment(
     second: u8,
     length: usize,
 ) -> io::Result<()> {
-    let mut book = [0u8; ROOM];
-    let to_head = builder::put_sizes(&mut book, 0, sizes(0, 1, bodies as u32));
-    let to_first = builder::put_head(&mut book, to_head, h);
-    let to_second = builder::put_entry(&mut book, to_first, entry(to_first, first));
-    builder::put_entry(&mut book, to_second, entry(to_second, second));
-    answer(rt, &book, length)
+    let entries = [entry(ONE, first), entry(ONE + AsEntry::SIZE, second)];
+    case(rt, sizes(0, 1, u32::from(bodies)), &[h], &entries, length)
 }
 
 // A body as its head states it, in a book of that length; the peers of its first entry.
 fn one(rt: &impl Print, label: &[u8], entries: u16, body: u16, peers: u8) -> io::Result<()> {
     say(rt, label)?;
-    segment(rt, head(entries, body), body, peers, 0, ONE + body as usize)
+    segment(
+        rt,
+        head(entries, body),
+        body,
+        peers,
+        0,
+        ONE + usize::from(body),
+    )
 }
 
 // The bytes of two entries, and a book of them.
@@ -155,9 +175,9 @@ fn pair(rt: &impl Print, label: &[u8], body: u16, peers: u8, length: usize) -> i
 
 fn one_segment(core: bool, body: u16) -> Sizes {
     if core {
-        return sizes(1, 0, body as u32);
+        return sizes(1, 0, u32::from(body));
     }
-    sizes(0, 1, body as u32)
+    sizes(0, 1, u32::from(body))
 }
 
 // A book of one segment, core or not, of so many entries; entry `again` has the AS of entry `first`.
@@ -169,14 +189,14 @@ fn in_row(
     first: u8,
     again: u8,
 ) -> io::Result<()> {
-    let length = ONE + AsEntry::SIZE * count as usize;
+    let length = ONE + AsEntry::SIZE * usize::from(count);
     let mut book = [0u8; ROOM];
-    let body = count as u16 * ENTRY;
+    let body = u16::from(count) * ENTRY;
     let to_head = builder::put_sizes(&mut book, 0, one_segment(core, body));
-    let to_first = builder::put_head(&mut book, to_head, head(count as u16, body));
-    entries(&mut book, to_first, count as usize, 0);
-    let known = ONE + AsEntry::SIZE * first as usize;
-    let at = ONE + AsEntry::SIZE * again as usize;
+    let to_first = builder::put_head(&mut book, to_head, head(u16::from(count), body));
+    entries(&mut book, to_first, usize::from(count), 0);
+    let known = ONE + AsEntry::SIZE * usize::from(first);
+    let at = ONE + AsEntry::SIZE * usize::from(again);
     builder::put_entry(&mut book, at, entry(known, 0));
     say(rt, label)?;
     answer(rt, &book, length)
@@ -237,13 +257,9 @@ fn lengths_first(rt: &impl Print) -> io::Result<()> {
 
 // A core and a non-core segment of one entry each, of one AS: their heads, and the peers of the entries. B and the book's length fit.
 fn two(rt: &impl Print, core: Head, other: Head, first: u8, second: u8) -> io::Result<()> {
-    let mut book = [0u8; ROOM];
-    let to_core = builder::put_sizes(&mut book, 0, sizes(1, 1, TWO as u32));
-    let to_other = builder::put_head(&mut book, to_core, core);
-    let to_first = builder::put_head(&mut book, to_other, other);
-    let to_second = builder::put_entry(&mut book, to_first, entry(0, first));
-    builder::put_entry(&mut book, to_second, entry(0, second));
-    answer(rt, &book, PAIR + Head::SIZE)
+    let entries = [entry(0, first), entry(0, second)];
+    let sizes = sizes(1, 1, u32::from(TWO));
+    case(rt, sizes, &[core, other], &entries, PAIR + Head::SIZE)
 }
 
 fn heads_first(rt: &impl Print) -> io::Result<()> {
@@ -303,13 +319,15 @@ fn ases(
     second: usize,
     length: usize,
 ) -> io::Result<()> {
-    let mut book = [0u8; ROOM];
-    let to_head = builder::put_sizes(&mut book, 0, sizes(0, 1, TWO as u32));
-    let to_first = builder::put_head(&mut book, to_head, head(2, TWO));
-    let to_second = builder::put_entry(&mut book, to_first, entry(first, 0));
-    builder::put_entry(&mut book, to_second, entry(second, 0));
     say(rt, label)?;
-    answer(rt, &book, length)
+    let entries = [entry(first, 0), entry(second, 0)];
+    case(
+        rt,
+        one_segment(false, TWO),
+        &[head(2, TWO)],
+        &entries,
+        length,
+    )
 }
 
 // ISD 1, AS ff00:0:110.
@@ -352,14 +370,16 @@ fn three_ases(
     second: usize,
     third: usize,
 ) -> io::Result<()> {
-    let mut book = [0u8; ROOM];
-    let to_head = builder::put_sizes(&mut book, 0, sizes(0, 1, THREE as u32));
-    let to_first = builder::put_head(&mut book, to_head, head(3, THREE));
-    let to_second = builder::put_entry(&mut book, to_first, entry(first, 0));
-    let to_third = builder::put_entry(&mut book, to_second, entry(second, 0));
-    builder::put_entry(&mut book, to_third, entry(third, 0));
     say(rt, label)?;
-    answer(rt, &book, PAIR + AsEntry::SIZE)
+    let entries = [entry(first, 0), entry(second, 0), entry(third, 0)];
+    let length = PAIR + AsEntry::SIZE;
+    case(
+        rt,
+        one_segment(false, THREE),
+        &[head(3, THREE)],
+        &entries,
+        length,
+    )
 }
 
 // Their last bytes are equal.
@@ -382,14 +402,10 @@ fn three(
     second: u8,
     third: u8,
 ) -> io::Result<()> {
-    let mut book = [0u8; ROOM];
-    let to_core = builder::put_sizes(&mut book, 0, sizes(1, 1, THREE as u32));
-    let to_other = builder::put_head(&mut book, to_core, core);
-    let to_first = builder::put_head(&mut book, to_other, other);
-    let to_second = builder::put_entry(&mut book, to_first, entry(0, first));
-    let to_third = builder::put_entry(&mut book, to_second, entry(0, second));
-    builder::put_entry(&mut book, to_third, entry(0, third));
-    answer(rt, &book, PAIR + AsEntry::SIZE + Head::SIZE)
+    let entries = [entry(0, first), entry(0, second), entry(0, third)];
+    let sizes = sizes(1, 1, u32::from(THREE));
+    let length = PAIR + AsEntry::SIZE + Head::SIZE;
+    case(rt, sizes, &[core, other], &entries, length)
 }
 
 fn other_bodies(rt: &impl Print) -> io::Result<()> {

@@ -5,34 +5,29 @@ use native.Mathlib.Nat.{zero-add, mul_comm}
 use native.Mathlib.Numerals.{add-one}
 use native.Mathlib.Omega.{arith}
 use mathlib.Core.Path.{◌≡◌, refl, sym, ap, ap₂, ◌∙◌}
-use mathlib.Core.Bool.{Bool, true, false}
+use mathlib.Core.Bool.{false}
 use mathlib.Core.List.{List, [], ◌∷◌, ◌++◌, map, flat_map, append-nil}
-use lib.ListN.{length, get_or, take, drop, replicate, length-append, length-map, length-drop, get_or-eq_default}
-use borrow.Author.Tests.{lt-ltb, le-ltb}
+use lib.ListN.{length, get_or, take, drop, length-append, length-map, get_or-eq_default}
 use Rattle.spec.specs.declared.HopField.{HopField}
 use Rattle.spec.specs.declared.InfoField.{InfoField}
 use Rattle.spec.specs.declared.Path.{Path}
-use Rattle.spec.specs.declared.Refusal.TheVariants.{Small, Wire}
-use Rattle.spec.specs.declared.WireAnswer.TheVariants.{Count, Refused}
 use Rattle.spec.specs.Limits.{max_edges, max_entries, path_head_size, info_size, hop_size, path_size, meta_size, wire_info_size, wire_hop_size, wire_size}
-use Rattle.std.specs.Prelude.{if◌then◌else◌}
-use Rattle.spec.specs.Basics.{range, padded}
+use Rattle.spec.specs.Basics.{range}
 use Rattle.spec.specs.Octets.{Bytes, be16, be32, be64, octets2, octets4}
 use Rattle.spec.specs.Book.{mac_at, isd_asn_at}
 use Rattle.spec.specs.Records.{info_octets, hop_octets, no_interface, path_head, path_head_octets, path_head_in, path_octets}
 use Rattle.spec.specs.Router.{info_at, hop_at, record_info, record_hop, infos_in, hops_in}
-use Rattle.spec.specs.Wire.{segment_length, wire_info_count, wire_hop_count, hops_of_info, meta_number, meta_octets, wire_info_offset, wire_info, wire_infos_in, wire_info_octets, wire_hop_at, wire_hop_offset, wire_hop, wire_hops_in, wire_hop_octets, wire_octets, wire_of, plain_path, record_of, record_needs, writer_refuses, reader_refuses, Carried, refused_wire, carried}
-use Rattle.spec.proofs.Lists.{length-range, range-suc, map-range-first, flat_map-append}
+use Rattle.spec.specs.Wire.{segment_length, wire_info_count, wire_hop_count, hops_of_info, meta_number, meta_octets, wire_info_offset, wire_info, wire_infos_in, wire_info_octets, wire_hop_at, wire_hop_offset, wire_hop, wire_hops_in, wire_hop_octets, wire_octets, wire_of, plain_path, record_of, record_needs, writer_refuses, reader_refuses}
+use Rattle.spec.proofs.Lists.{length-range, range-suc, map-range-first, flat_map-append, flat-map}
 use Rattle.spec.proofs.Bounds.{flat-exact}
-use Rattle.spec.proofs.Lists.{flat-map}
 use Rattle.spec.proofs.PathLaws.{head-length}
 use Rattle.spec.proofs.ByteLaws.{info-length}
 use Rattle.spec.proofs.WireBytes.{info-on-wire, info-in-record, hop-on-wire, hop-in-record}
 use Rattle.spec.proofs.WireTests.{Writable, writable, Readable, readable}
 use Rattle.spec.proofs.WireForms.{counted, wire-length, writable-legal, readable-legal}
 use Rattle.spec.proofs.WireLaws.{sum-most, wire-fits, plain_fits, plain-length}
-use Rattle.output.specs.Write.{written, zeroed}
-use Rattle.output.proofs.Writing.{written-length, written_none, written-pair, written_next, zeroed-all, zeroed_rest}
+use Rattle.output.specs.Write.{written}
+use Rattle.output.proofs.Writing.{written-length, written_none, written-pair}
 
 -- ---- copies
 
@@ -204,8 +199,12 @@ module _ (r : List ℕ) where
 
 -- ---- in a record
 
-pub length_at : (w : List ℕ) (k j x : ℕ) → x ≡ segment_length w j → k ≡ j → x ≡ segment_length w k
-length_at w k j x q e = q ∙ ap (segment_length w) (sym e)
+-- length k of the three
+pub length_at : (w l : List ℕ) → l ≡ segment_length w 0 ∷ segment_length w 1 ∷ segment_length w 2 ∷ [] → (k : ℕ) → k < 3 → get_or l k 0 ≡ segment_length w k
+length_at w l q zero h = ap (λ m. get_or m 0 0) q
+length_at w l q (suc zero) h = ap (λ m. get_or m 1 0) q
+length_at w l q (suc (suc zero)) h = ap (λ m. get_or m 2 0) q
+length_at w l q (suc (suc (suc k))) h = absurd (omega arith)
 
 pub hop-total : (w : List ℕ) (a b c : ℕ) → (a ≡ segment_length w 0) × (b ≡ segment_length w 1) × (c ≡ segment_length w 2) → a + b + c ≡ wire_hop_count w
 unfolding wire_hop_count
@@ -283,37 +282,3 @@ module _ (w : List ℕ) where
     pub record-most : length (record_of w) ≤ path_size
     unfolding record_of
     record-most = plain_fits (wire_infos_in w) (wire_hops_in w) (readable-legal w bytes read)
-
--- ---- answers
-
-module _ (d z : List ℕ) (room : ℕ) (refused : Bool) (xs : List ℕ) where
-  abbrev answer : Carried
-  answer = carried (length d) room refused xs
-
-  pub small-answer : length d < room → z ≡ zeroed d 0 → ◌≡◌ {A = Carried} (Refused Small, z) answer
-  unfolding carried refused_wire
-  small-answer h q =
-      ap (λ l. (Refused Small, l)) (q ∙ zeroed-all d)
-      ∙ sym (ap (λ t. if t then refused_wire (length d) Small else if refused then refused_wire (length d) Wire else (Count (length xs), padded (length d) xs)) (lt-ltb (length d) room h))
-
-  big : room ≤ length d → answer ≡ (if refused then refused_wire (length d) Wire else (Count (length xs), padded (length d) xs))
-  unfolding carried
-  big h = ap (λ t. if t then refused_wire (length d) Small else if refused then refused_wire (length d) Wire else (Count (length xs), padded (length d) xs)) (le-ltb (length d) room h)
-
-  pub wire-answer : room ≤ length d → (t : Bool) → t ≡ refused → t ≡ true → z ≡ zeroed d 0 → ◌≡◌ {A = Carried} (Refused Wire, z) answer
-  unfolding refused_wire
-  wire-answer h t e k q =
-      ap (λ l. (Refused Wire, l)) (q ∙ zeroed-all d)
-      ∙ sym (big h ∙ ap (λ s. if s then refused_wire (length d) Wire else (Count (length xs), padded (length d) xs)) (sym e ∙ k))
-
-  filled-up : (d₁ : List ℕ) → length xs ≤ length d → d₁ ≡ written d 0 xs → zeroed d₁ (length xs) ≡ padded (length d) xs
-  unfolding padded
-  filled-up d₁ h p =
-      ap (λ l. zeroed l (length xs)) (p ∙ written_next [] d 0 xs refl h) ∙ zeroed_rest xs (drop (length xs) d)
-      ∙ ap (λ k. xs ++ replicate k 0) (length-drop (length xs) d)
-
-  pub count-answer : room ≤ length d → (t : Bool) → t ≡ refused → t ≡ false → (n : ℕ) (d₁ : List ℕ) → length xs ≤ room → n ≡ length xs → d₁ ≡ written d 0 xs
-      → z ≡ zeroed d₁ n → ◌≡◌ {A = Carried} (Count n, z) answer
-  count-answer h t e k n d₁ most l p q =
-      ap₂ {C = Carried} (λ a b. (Count a, b)) l (q ∙ ap (zeroed d₁) l ∙ filled-up d₁ (omega arith) p)
-      ∙ sym (big h ∙ ap (λ s. if s then refused_wire (length d) Wire else (Count (length xs), padded (length d) xs)) (sym e ∙ k))

@@ -1,3 +1,4 @@
 -- Laws that belong to no one function.
 pub mod Testing
+pub mod Taking
 pub mod Carrying

@@ -1,6 +1,7 @@
 -- The tests of writer and reader, in the order of the code.
 -- Assumes nothing.
-use Prim.Native.Nat.{ℕ, suc, ◌+◌, ◌*◌, ◌/◌, ◌%◌, ◌^◌, ◌≤◌, ◌<◌}
+use Rattle.std.proofs.lemmas.List.{map-append}
+use Prim.Native.Nat.{ℕ, suc, ◌+◌, ◌-◌, ◌*◌, ◌/◌, ◌%◌, ◌^◌, ◌≤◌, ◌<◌}
 use native.Mathlib.Nat.{zero-add}
 use native.Mathlib.Decide.{dec_le}
 use native.Mathlib.Numerals.{add-one}
@@ -19,7 +20,7 @@ use Rattle.spec.specs.Records.{path_head_in}
 use Rattle.spec.specs.Router.{info_at, record_info, infos_in}
 use Rattle.spec.specs.Wire.{current_info, current_hop, meta_reserved, segment_length, wire_info_count, wire_hop_count, hops_of_info, wire_info_offset, wire_hop_offset, is_wrong_info, record_needs, writer_refuses, wrong_lengths, uses_reserved, is_flagged, reader_refuses}
 use Rattle.spec.proofs.Membership.{not-both}
-use Rattle.spec.proofs.Lists.{map-append, range-suc}
+use Rattle.spec.proofs.Lists.{range-suc}
 use Rattle.spec.proofs.WireTests.{eq-not, fails, none_below, of_none, writable, readable}
 
 -- ---- tests one after the other
@@ -161,9 +162,28 @@ module _ (r : List ℕ) where
 -- ---- the wire
 
 module _ (w : List ℕ) where
-  pub third_of : (x : ℕ) → x ≡ be32 w 0 → x % 2 ^ 6 ≡ segment_length w 2
+  -- the three lengths, of the meta header as a number
+  pub lengths-are : (x : ℕ) → x ≡ be32 w 0
+      → ◌≡◌ {A = List ℕ} (x / 4096 % 64 ∷ x / 64 % 64 ∷ x % 64 ∷ []) (segment_length w 0 ∷ segment_length w 1 ∷ segment_length w 2 ∷ [])
   unfolding segment_length
-  third_of x e = omega arith
+  lengths-are x e =
+      let third : x % 64 ≡ be32 w 0 / 2 ^ (6 * (2 - 2)) % 2 ^ 6 = omega arith in
+      ap₂ (λ a b. (a / 4096 % 64 ∷ a / 64 % 64 ∷ b ∷ [])) e third
+
+  abbrev pub Three : ℕ → ℕ → ℕ → Type 0
+  Three a b c = (a ≡ segment_length w 0) × (b ≡ segment_length w 1) × (c ≡ segment_length w 2)
+
+  -- so that they are few hops
+  pub three-few : {a b c : ℕ} → Three a b c → a + b + c < 192
+  unfolding segment_length
+  three-few t = omega (arith, t.0, t.1, t.2)
+
+  pub three-lengths : (l : List ℕ) → l ≡ segment_length w 0 ∷ segment_length w 1 ∷ segment_length w 2 ∷ [] → Three (get_or l 0 0) (get_or l 1 0) (get_or l 2 0)
+  three-lengths l q = (ap (λ m. get_or m 0 0) q, ap (λ m. get_or m 1 0) q, ap (λ m. get_or m 2 0) q)
+
+  pub three-from : (l : List ℕ) → l ≡ segment_length w 0 ∷ segment_length w 1 ∷ segment_length w 2 ∷ [] → {a b c : ℕ}
+      → a ≡ get_or l 0 0 → b ≡ get_or l 1 0 → c ≡ get_or l 2 0 → Three a b c
+  three-from l q e f g = let t = three-lengths l q in (e ∙ t.0, f ∙ t.1, g ∙ t.2)
 
   module _ (a b c : ℕ) (p : (a ≡ segment_length w 0) × (b ≡ segment_length w 1) × (c ≡ segment_length w 2)) where
     abbrev counts : Bool → Bool → Bool → ℕ

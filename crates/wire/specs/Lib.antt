@@ -1,1 +1,1 @@
--- No definitions of its own: the contracts cite those of `spec` and `output`.
+pub mod Taking

@@ -7,38 +7,31 @@ mod put;
 ghost use Rattle.std.specs.Prelude.{◌≡◌, length};
 ghost use Rattle.spec.specs.Wire.{writing, reading};
 
-use spec::{Path, Refusal, WireAnswer};
+use put::{TakenRecord, TakenWire};
+use spec::Refusal;
 
 // Writes the path of a record, as the routers take it: how many bytes it has, and zeros after them.
-pub fn write(path: &[u8], out: &mut [u8]) -> WireAnswer
+pub fn write(path: &[u8], out: &mut [u8]) -> Result<usize, Refusal>
     ensures { (result, out.new) ≡ writing path.now (length out.old) }
 {
-    if out.len() < Path::WIRE {
+    if let Err(r) = accept::test_record(path, out.len()) {
         output::zero(out, 0);
-        return WireAnswer::Refused(Refusal::Small);
+        return Err(r);
     }
-    if accept::refuses_record(path) {
-        output::zero(out, 0);
-        return WireAnswer::Refused(Refusal::Wire);
-    }
-    let end = put::put_wire(path, out);
+    let end = TakenRecord { path }.put(out);
     output::zero(out, end);
-    WireAnswer::Count(end)
+    Ok(end)
 }
 
 // Reads a path from the wire into a record: how many bytes that has, and zeros after them.
-pub fn read(wire: &[u8], out: &mut [u8]) -> WireAnswer
+pub fn read(wire: &[u8], out: &mut [u8]) -> Result<usize, Refusal>
     ensures { (result, out.new) ≡ reading wire.now (length out.old) }
 {
-    if out.len() < Path::SIZE {
+    if let Err(r) = accept::test_wire(wire, out.len()) {
         output::zero(out, 0);
-        return WireAnswer::Refused(Refusal::Small);
+        return Err(r);
     }
-    if accept::refuses_wire(wire) {
-        output::zero(out, 0);
-        return WireAnswer::Refused(Refusal::Wire);
-    }
-    let end = put::put_record(wire, out);
+    let end = TakenWire { wire }.put(out);
     output::zero(out, end);
-    WireAnswer::Count(end)
+    Ok(end)
 }

@@ -1,14 +1,17 @@
 -- `put_peer` meets its contract.
-use Rattle.builder.specs.Layout.{peer_octets}
+use mathlib.Core.Path.{refl, ap, ◌∙◌}
+use Rattle.output.proofs.Copied.{be_bytes2, be_bytes8}
+use Rattle.builder.specs.Layout.{appended, peer_octets}
 use Rattle.builder.proofs.Appending.{next}
 use Rattle.builder.proofs.put_peer.Goals as goal
 
 pub returns : goal.returns
 unfolding peer_octets
 returns c =
-    let p = next _ _ _ _ _ _ _ c.eight-interface.ensures c.two-mtu.ensures in
-    let q = next _ _ _ _ _ _ _ p c.two-units.ensures in
-    let r = next _ _ _ _ _ _ _ q c.one-ingress.ensures in
-    let s = next _ _ _ _ _ _ _ r c.two-egress.ensures in
-    let t = next _ _ _ _ _ _ _ s c.two-key.ensures in
-    next _ _ _ _ _ _ _ t c.mac.ensures
+    let p = c.append-interface.ensures ∙ ap (appended _ _) (c.to_be_bytes.ensures ∙ be_bytes8 _) in
+    let q = next _ _ _ _ _ _ p c.append-mtu.ensures (c.to_be_bytes-2.ensures ∙ be_bytes2 _) in
+    let r = next _ _ _ _ _ _ q c.append-units.ensures (c.to_be_bytes-3.ensures ∙ be_bytes2 _) in
+    let s = next _ _ _ _ _ _ r c.append-ingress.ensures refl in
+    let t = next _ _ _ _ _ _ s c.append-egress.ensures (c.to_be_bytes-4.ensures ∙ be_bytes2 _) in
+    let u = next _ _ _ _ _ _ t c.append-key.ensures (c.to_be_bytes-5.ensures ∙ be_bytes2 _) in
+    next _ _ _ _ _ _ u c.append.ensures refl

@@ -2,16 +2,12 @@
 use native.Mathlib.Omega.{arith}
 use Rattle.spec.proofs.WireLaws.{reversible}
 use Rattle.combinator.specs.Exports.{read_returned}
-use Rattle.combinator.proofs.Returning.{wire-told, wire-count, wire-refusal}
+use Rattle.combinator.proofs.Returning.{wire-low, wire-number}
 use Rattle.combinator.proofs.combinator_read.Goals as goal
 
-pub overflow_cast-result : goal.overflow_cast-result
-overflow_cast-result c = omega (arith, ((reversible _ (λ i. (c.type_inv.wire i).fits)).record-count _ _ (wire-told _ _ _ c.read-answer.ensures _ c.in-Count.is)).1)
+pub counted-requires : goal.counted-requires
+counted-requires c = wire-low _ _ _ c.read.ensures (λ n q. omega (arith, ((reversible _ (λ i. (c.type_inv.wire i).fits)).record-count n _ q).1))
 
-pub returns-in-Count : goal.returns-in-Count
+pub returns : goal.returns
 unfolding read_returned
-returns-in-Count c = wire-count _ _ _ c.read-answer.ensures _ c.in-Count.is
-
-pub returns-in-Refused : goal.returns-in-Refused
-unfolding read_returned
-returns-in-Refused c = wire-refusal _ _ _ c.read-answer.ensures _ _ c.in-Refused.is c.number.ensures.0
+returns c = wire-number _ _ _ c.read.ensures _ c.counted.ensures

@@ -1,13 +1,9 @@
 -- `combinator_routes` meets its contract.
-use native.Mathlib.Omega.{arith}
-use Rattle.combinator.proofs.Returning.{routes-most, routes-count, routes-refusal}
+use Rattle.combinator.proofs.Returning.{routes-low, routes-number}
 use Rattle.combinator.proofs.combinator_routes.Goals as goal
 
-pub overflow_cast-result : goal.overflow_cast-result
-overflow_cast-result c = omega (arith, routes-most _ _ _ _ _ _ c.routes-answer.ensures _ c.in-Count.is)
+pub counted-requires : goal.counted-requires
+counted-requires c = routes-low _ _ _ _ _ _ c.routes.ensures
 
-pub returns-in-Count : goal.returns-in-Count
-returns-in-Count c = routes-count _ _ _ _ _ _ c.routes-answer.ensures _ c.in-Count.is
-
-pub returns-in-Refused : goal.returns-in-Refused
-returns-in-Refused c = routes-refusal _ _ _ _ _ _ c.routes-answer.ensures _ _ c.in-Refused.is c.number.ensures.0
+pub returns : goal.returns
+returns c = routes-number _ _ _ _ _ _ c.routes.ensures _ c.counted.ensures

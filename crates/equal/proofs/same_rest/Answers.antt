@@ -11,4 +11,4 @@ returns-then-not-same_kind c = sym (other-kind _ _ _ c.same_kind.ensures c.if-no
 
 pub returns : goal.returns
 returns c =
-    sym (by-bodies _ _ _ c.same_kind.ensures c.requires c.timestamp.ensures c.timestamp-2.ensures c.if-timestamp.false c.if-not-same_kind.false (c.wide-m.ensures.0 ∙ c.body_length.ensures) (c.wide-n.ensures.0 ∙ c.body_length-2.ensures) c.body_offset-at_j.ensures.0 c.body_offset-at_k.ensures.0 c.same_parts.ensures)
+    sym (by-bodies _ _ _ c.same_kind.ensures c.requires c.timestamp.ensures c.timestamp-2.ensures c.if-timestamp.false c.if-not-same_kind.false (c.from-m.ensures ∙ c.body_length.ensures) (c.from-n.ensures ∙ c.body_length-2.ensures) c.body_offset-at_j.ensures.0 c.body_offset-at_k.ensures.0 c.same_parts.ensures)

@@ -1,21 +1,16 @@
 -- `fingerprint` meets its contract.
 use mathlib.Core.Path.{sym, ap, ap₂, ◌∙◌}
 use Prim.Native.Nat.{min}
-use native.Mathlib.Omega.{arith}
-use lib.Seq.{length-take-le}
 use Rattle.spec.specs.Limits.{max_entries}
 use Rattle.sha256.specs.Message.{sha256}
 use Rattle.fingerprint.specs.Print.{inputs}
 use Rattle.fingerprint.proofs.Printing.{input-least}
 use Rattle.fingerprint.proofs.fingerprint.Goals as goal
 
-pub slice_bounds-sha256-end : goal.slice_bounds-sha256-end
-slice_bounds-sha256-end c = sym (length-take-le _ _ (omega arith))
-
 pub returns : goal.returns
 returns c =
     let a = c.args in
     c.sha256.ensures
     ∙ ap sha256 (c.message-m.ensures
-    ∙ ap₂ (inputs a.book.now) c.body_offset.ensures.0 (c.least-count.ensures ∙ ap (min max_entries) (c.wide.ensures.0 ∙ c.entry_count.ensures))
+    ∙ ap₂ (inputs a.book.now) c.body_offset.ensures.0 (c.min-count.ensures ∙ ap (min max_entries) (c.from.ensures ∙ c.entry_count.ensures))
     ∙ sym (input-least a.book.now a.k))

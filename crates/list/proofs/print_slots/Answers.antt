@@ -9,7 +9,7 @@ use Rattle.list.proofs.Fronts.{none-long, one-longer, count-few}
 use Rattle.list.proofs.print_slots.Goals as goal
 
 pub loop-k-init : goal.loop-k-init
-loop-k-init g c = (none-long _, omega arith, omega arith)
+loop-k-init g c = (none-long _, omega arith)
 
 pub print_slot-written-requires : goal.print_slot-written-requires
 print_slot-written-requires g c = record { records_value = c.requires.records_value; k_bound = omega arith }
@@ -17,13 +17,9 @@ print_slot-written-requires g c = record { records_value = c.requires.records_va
 pub overflow_add-written : goal.overflow_add-written
 overflow_add-written g c = omega (arith, count-few c.args.input.now)
 
-pub overflow_add-k : goal.overflow_add-k
-overflow_add-k g c = omega (arith, count-few c.args.input.now)
-
 pub loop-k-preserved : goal.loop-k-preserved
 loop-k-preserved g c = (
   omega (arith, one-longer (slot_text c.args.input.now c.args.records.now) c.loop-k.k, c.print_slot-written.ensures.0),
-  omega arith,
   omega (arith, c.print_slot-written.ensures.1),
 )
 

@@ -8,7 +8,4 @@ use Rattle.printed.specs.Pieces.{slot_text, solution_text_size}
 use Rattle.list.proofs.print_slots.Given as goal
 
 abbrev pub invariant-loop-k : goal.invariant-loop-k
-invariant-loop-k g l = (l.written ≡ length (flat_map (slot_text l.input l.records) (range 0 l.k))) × (l.k ≤ l.count) × (l.written ≤ l.k * solution_text_size)
-
-abbrev pub decreases-loop-k : goal.decreases-loop-k
-decreases-loop-k g l = l.count - l.k
+invariant-loop-k g l = (l.written ≡ length (flat_map (slot_text l.input l.records) (range 0 l.k))) × (l.written ≤ l.k * solution_text_size)

@@ -1,8 +1,7 @@
 -- `sha256::big_sigma0` meets its contract.
-use lib.Bits.{bit_xor}
 use Rattle.sha256.specs.Words.{Σ₀}
 use Rattle.sha256.proofs.big_sigma0.Goals as goal
 
 pub returns : goal.returns
 unfolding Σ₀
-returns c = λ i. bit_xor (bit_xor (c.rotr.ensures i) (c.rotr-2.ensures i)) (c.rotr-3.ensures i)
+returns c = cc

@@ -1,20 +1,20 @@
 -- `read` meets its contract.
 use mathlib.Core.Path.{sym, ◌∙◌}
 use Rattle.spec.specs.Wire.{reading}
-use Rattle.wire.proofs.Carrying.{record-most, small-answer, wire-answer, count-answer}
+use Rattle.wire.proofs.Taking.{taken, refused-answer, count-answer}
+use Rattle.wire.proofs.Carrying.{record-most}
 use Rattle.wire.proofs.read.Goals as goal
 
-pub returns-then-out-lt-SIZE : goal.returns-then-out-lt-SIZE
+pub returns-in-Err : goal.returns-in-Err
 unfolding reading
-returns-then-out-lt-SIZE c = small-answer _ _ _ _ _ c.if-out-lt-SIZE.true c.zero.ensures
+returns-in-Err c = refused-answer _ _ _ _ _ _ (sym c.test_wire.ensures ∙ c.in-Err.is) c.zero.ensures
 
-pub returns-then-refuses_wire : goal.returns-then-refuses_wire
-unfolding reading
-returns-then-refuses_wire c = wire-answer _ _ _ _ _ c.if-out-lt-SIZE.false _ c.refuses_wire.ensures c.if-refuses_wire.true c.zero-then-refuses_wire.ensures
+pub invariant_of-put : goal.invariant_of-put
+invariant_of-put c = record { bytes = λ i. (c.type_inv.wire i).fits; taken = (taken _ _ _ (sym c.test_wire.ensures ∙ c.in_default.is)).1 }
 
-pub put_record-end-requires : goal.put_record-end-requires
-put_record-end-requires c = (sym c.refuses_wire.ensures ∙ c.if-refuses_wire.false, c.if-out-lt-SIZE.false)
+pub put-end-requires : goal.put-end-requires
+put-end-requires c = (taken _ _ _ (sym c.test_wire.ensures ∙ c.in_default.is)).0
 
 pub returns : goal.returns
 unfolding reading
-returns c = count-answer _ _ _ _ _ c.if-out-lt-SIZE.false _ c.refuses_wire.ensures c.if-refuses_wire.false _ _ (record-most _ (λ i. (c.type_inv.wire i).fits) (sym c.refuses_wire.ensures ∙ c.if-refuses_wire.false)) c.put_record-end.ensures.0 c.put_record-end.ensures.1 c.zero-2.ensures
+returns c = count-answer _ _ _ _ _ (sym c.test_wire.ensures ∙ c.in_default.is) _ _ (record-most _ (λ i. (c.type_inv.wire i).fits) (taken _ _ _ (sym c.test_wire.ensures ∙ c.in_default.is)).1) c.put-end.ensures.0 c.put-end.ensures.1 c.zero-2.ensures

@@ -12,6 +12,3 @@ pub returns-then-open_fast : goal.returns-then-open_fast
 returns-then-open_fast c =
     let q = c.open_fast.ensures c.if-open_fast.true in
     (sym q.0, q.1 ∙ sym (open-accepted _ (sym q.0) refl))
-
-pub returns : goal.returns
-returns c = c.open_slowly.ensures

@@ -1,6 +1,6 @@
 -- `mark` meets its contract.
-use Rattle.book.proofs.Marking.{mark-read}
+use Rattle.book.proofs.Marking.{mark-low}
 use Rattle.book.proofs.marks.mark.Goals as goal
 
 pub returns : goal.returns
-returns c = mark-read _ _ c.wide.ensures
+returns c = mark-low _

@@ -1,11 +1,8 @@
--- `bodies_end` meets its contract. The loop's invariant: `at` is where the body at k starts.
+-- The loop's invariant: `at` is where the body at k starts.
 use mathlib.Core.Path.{◌≡◌}
-use Prim.Native.Nat.{◌+◌, ◌*◌, ◌-◌, ◌^◌, ◌≤◌, ◌<◌}
+use Prim.Native.Nat.{◌+◌, ◌*◌, ◌^◌, ◌<◌}
 use Rattle.spec.specs.Book.{body_offset}
 use Rattle.book.proofs.sizes.bodies_end.Given as goal
 
 abbrev pub invariant-loop-k : goal.invariant-loop-k
-invariant-loop-k l = (l.k ≤ l.count) × (l.at < 2 ^ 21 + 65536 * l.k) × (l.at ≡ body_offset l.book l.k)
-
-abbrev pub decreases-loop-k : goal.decreases-loop-k
-decreases-loop-k l = l.count - l.k
+invariant-loop-k l = (l.at < 2 ^ 21 + 65536 * l.k) × (l.at ≡ body_offset l.book l.k)

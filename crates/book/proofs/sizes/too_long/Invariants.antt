@@ -1,12 +1,9 @@
--- `too_long` meets its contract. The loop's invariant: whether a head is too long shows in those from k on.
+-- The loop's invariant: whether a head is too long shows in those from k on.
 use mathlib.Core.Path.{◌≡◌}
-use Prim.Native.Nat.{◌-◌, ◌≤◌}
+use Prim.Native.Nat.{◌-◌}
 use Rattle.spec.specs.Basics.{any, range}
 use Rattle.spec.specs.Book.{is_long, too_long}
 use Rattle.book.proofs.sizes.too_long.Given as goal
 
 abbrev pub invariant-loop-k : goal.invariant-loop-k
-invariant-loop-k l = (l.k ≤ l.count) × (too_long l.book ≡ any (is_long l.book) (range l.k (l.count - l.k)))
-
-abbrev pub decreases-loop-k : goal.decreases-loop-k
-decreases-loop-k l = l.count - l.k
+invariant-loop-k l = too_long l.book ≡ any (is_long l.book) (range l.k (l.segments - l.k))

@@ -10,9 +10,6 @@ returns-then-given-ne-SIZE c = recorded-size _ _ _ _ c.if-given-ne-SIZE.true
 pub returns-then-count-gt-MOST : goal.returns-then-count-gt-MOST
 returns-then-count-gt-MOST c = recorded-long _ _ _ _ c.edge_count-count.ensures c.if-count-gt-MOST.true
 
-pub is_chain-requires : goal.is_chain-requires
-is_chain-requires c = record { ready = c.requires; given_len = c.if-given-ne-SIZE.false; count_le_max_edges = c.if-count-gt-MOST.false }
-
 pub returns-then-is_chain : goal.returns-then-is_chain
 returns-then-is_chain c = sym (walk-recorded _ _ _ _ c.edge_count-count.ensures c.if-count-gt-MOST.false true (sym c.is_chain.ensures ∙ c.if-is_chain.true))
 

@@ -12,16 +12,10 @@ pub returns-then-i-n : goal.returns-then-i-n
 unfolding found_edges
 returns-then-i-n c =
     let p = c.requires in
-    leaf-named c.args.book.now c.args.id p.position_value (ready-apart _ _ p.filled.ready _ p.filled.below) p.filled.count p.shortcut_lt_n p.peer_value c.if-i-n.true
-
-pub as_at-here-requires : goal.as_at-here-requires
-as_at-here-requires c = let p = c.requires in record { ready = p.filled.ready; k_bound = p.filled.below; i_bound = omega (arith, p.filled.count, p.shortcut_lt_n) }
+    leaf-named c.args.opened.now.book.now c.args.id p.position_value (ready-apart _ _ c.args.opened.now.ready _ p.filled.below) p.filled.count p.shortcut_lt_n p.peer_value c.if-i-n.true
 
 pub overflow_sub-n-2 : goal.overflow_sub-n-2
 overflow_sub-n-2 c = omega (arith, c.requires.filled.some)
-
-pub as_at-leaf-requires : goal.as_at-leaf-requires
-as_at-leaf-requires c = let p = c.requires in record { ready = p.filled.ready; k_bound = p.filled.below; i_bound = omega (arith, p.filled.count, p.filled.some) }
 
 pub overflow_sub-result : goal.overflow_sub-result
 overflow_sub-result c = omega (arith, c.requires.filled.some)
@@ -33,7 +27,7 @@ pub returns-then-id : goal.returns-then-id
 unfolding found_edges
 returns-then-id c =
     let p = c.requires in
-    as-there c.args.book.now c.args.id p.position_value (ready-apart _ _ p.filled.ready _ p.filled.below) p.filled.count p.shortcut_lt_n p.peer_value
+    as-there c.args.opened.now.book.now c.args.id p.position_value (ready-apart _ _ c.args.opened.now.ready _ p.filled.below) p.filled.count p.shortcut_lt_n p.peer_value
     c.if-i-n.false c.as_at-here.ensures (leaf-read _ p.filled.count c.as_at-leaf.ensures) c.if-id.true
 
 pub overflow_sub-result-2 : goal.overflow_sub-result-2
@@ -46,5 +40,5 @@ pub returns : goal.returns
 unfolding found_edges
 returns c =
     let p = c.requires in
-    as-back c.args.book.now c.args.id p.position_value (ready-apart _ _ p.filled.ready _ p.filled.below) p.filled.count p.shortcut_lt_n p.peer_value
+    as-back c.args.opened.now.book.now c.args.id p.position_value (ready-apart _ _ c.args.opened.now.ready _ p.filled.below) p.filled.count p.shortcut_lt_n p.peer_value
     c.if-i-n.false c.as_at-here.ensures (leaf-read _ p.filled.count c.as_at-leaf.ensures) c.if-id.false

@@ -16,14 +16,8 @@ pub returns-then-id-gt0-2 : goal.returns-then-id-gt0-2
 unfolding found_edges
 returns-then-id-gt0-2 c = core-peer _ c.args.id c.requires.position_value c.if-id-gt0-2.true
 
-pub as_at-first-requires : goal.as_at-first-requires
-as_at-first-requires c = let f = c.requires.filled in record { ready = f.ready; k_bound = f.below; i_bound = omega (arith, f.count, f.some) }
-
 pub overflow_sub-n : goal.overflow_sub-n
 overflow_sub-n c = omega (arith, c.requires.filled.some)
-
-pub as_at-last-requires : goal.as_at-last-requires
-as_at-last-requires c = let f = c.requires.filled in record { ready = f.ready; k_bound = f.below; i_bound = omega (arith, f.count, f.some) }
 
 pub edge_of_core-requires : goal.edge_of_core-requires
 edge_of_core-requires c = c.requires.filled.some
@@ -33,14 +27,14 @@ unfolding found_edges
 returns-then-id c =
     let p = c.requires in
     ap (λ x. x ∷ []) c.edge_of_core.ensures
-    ∙ core-there c.args.book.now c.args.id p.position_value p.filled.count p.filled.some (omega arith) (omega arith)
+    ∙ core-there c.args.opened.now.book.now c.args.id p.position_value p.filled.count p.filled.some (omega arith) (omega arith)
     c.as_at-first.ensures (leaf-read _ p.filled.count c.as_at-last.ensures) c.if-id.true
 
 pub returns-then-n-eq1 : goal.returns-then-n-eq1
 unfolding found_edges
 returns-then-n-eq1 c =
     let p = c.requires in
-    core-one c.args.book.now c.args.id p.position_value p.filled.count p.filled.some (omega arith) (omega arith)
+    core-one c.args.opened.now.book.now c.args.id p.position_value p.filled.count p.filled.some (omega arith) (omega arith)
     c.as_at-first.ensures (leaf-read _ p.filled.count c.as_at-last.ensures) c.if-id.false c.if-n-eq1.true
 
 pub edge_of_core-requires-2 : goal.edge_of_core-requires-2
@@ -51,5 +45,5 @@ unfolding found_edges
 returns c =
     let p = c.requires in
     ap (λ x. x ∷ []) c.edge_of_core-2.ensures
-    ∙ core-back c.args.book.now c.args.id p.position_value p.filled.count p.filled.some (omega arith) (omega arith)
-    c.as_at-first.ensures (leaf-read _ p.filled.count c.as_at-last.ensures) c.if-id.false (ready-apart _ _ p.filled.ready _ p.filled.below) c.if-n-eq1.false
+    ∙ core-back c.args.opened.now.book.now c.args.id p.position_value p.filled.count p.filled.some (omega arith) (omega arith)
+    c.as_at-first.ensures (leaf-read _ p.filled.count c.as_at-last.ensures) c.if-id.false (ready-apart _ _ c.args.opened.now.ready _ p.filled.below) c.if-n-eq1.false

@@ -3,6 +3,7 @@ use mathlib.Core.Path.{ap, ◌∙◌}
 use mathlib.Core.List.{[], ◌∷◌}
 use Rattle.graph.specs.Lookup.{found_edges}
 use Rattle.graph.proofs.EdgeReads.{core-made, core-none, between-peering}
+use Rattle.graph.proofs.VertexTests.{as_eq}
 use Rattle.graph.proofs.edges.core_between.Goals as goal
 
 pub returns-in_default : goal.returns-in_default
@@ -19,12 +20,12 @@ unfolding found_edges
 returns-then-joins c =
     let p = c.requires in
     ap (λ x. x ∷ []) c.edge_of_core.ensures
-    ∙ core-made c.args.book.now c.args.k p.k_value p.filled.count p.filled.some c.in-AS.is
-    c.as_at.ensures p.last_value _ c.joins.ensures c.if-joins.true c.same_as.ensures
+    ∙ core-made c.args.opened.now.book.now c.args.k p.k_value p.filled.count p.filled.some c.in-AS.is
+    c.as_at.ensures p.last_value _ c.joins.ensures c.if-joins.true (as_eq _ _ c.eq.ensures)
 
 pub returns : goal.returns
 unfolding found_edges
 returns c =
     let p = c.requires in
-    core-none c.args.book.now c.args.k p.k_value p.filled.count p.filled.some c.in-AS.is
+    core-none c.args.opened.now.book.now c.args.k p.k_value p.filled.count p.filled.some c.in-AS.is
     c.as_at.ensures p.last_value _ c.joins.ensures c.if-joins.false

@@ -14,6 +14,6 @@ returns-then-q-p c = up-later _ _ _ c.requires.p_bound c.link_at-link.ensures c.
 pub returns : goal.returns
 unfolding found_edges
 returns c =
-    peer-up-made c.args.book.now c.args.k c.args.i c.args.p c.count_of-n.ensures.0
+    peer-up-made c.args.opened.now.book.now c.args.k c.args.i c.args.p c.count_of-n.ensures.0
     (leaf-read _ c.count_of-n.ensures.0 c.as_at-leaf.ensures) c.link_at-link.result c.link_at-link.ensures c.find_peer-q.ensures
     (link-some _ _ _ c.requires.p_bound c.link_at-link.ensures c.find_peer-q.ensures) c.if-q-p.false c.is_core.ensures

@@ -5,8 +5,8 @@ use Rattle.segment.proofs.Fields.{cores-read}
 use Rattle.graph.proofs.FirstOfEqualsLaws.{none-start, kinds-differ}
 use Rattle.graph.proofs.first_of_equals.kind_start.Goals as goal
 
-pub returns-then-k-cores : goal.returns-then-k-cores
-returns-then-k-cores c = none-start
+pub returns-then-from-cores : goal.returns-then-from-cores
+returns-then-from-cores c = none-start
 
 pub returns : goal.returns
-returns c = kinds-differ _ _ _ (c.wide-cores.ensures.0 ∙ cores-read _ c.sizes_within.ensures) (omega arith)
+returns c = kinds-differ _ _ _ (c.from-cores.ensures ∙ cores-read _ c.sizes.ensures) (omega (arith, c.from.ensures))

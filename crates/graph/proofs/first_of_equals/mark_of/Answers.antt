@@ -4,11 +4,11 @@ use mathlib.Core.Path.{◌∙◌}
 use Rattle.graph.proofs.FirstOfEqualsLaws.{head-within, mark-read}
 use Rattle.graph.proofs.first_of_equals.mark_of.Goals as goal
 
-pub bounds-book-head : goal.bounds-book-head
-bounds-book-head c = let p = c.requires in omega (arith, head-within _ p.ready.ok _ p.k_bound)
+pub bounds-opened-head : goal.bounds-opened-head
+bounds-opened-head c = let p = c.requires in omega (arith, c.from.ensures, head-within _ c.args.opened.now.ready.ok _ p.k_bound)
 
-pub bounds-book-head-2 : goal.bounds-book-head-2
-bounds-book-head-2 c = let p = c.requires in omega (arith, head-within _ p.ready.ok _ p.k_bound)
+pub bounds-opened-head-2 : goal.bounds-opened-head-2
+bounds-opened-head-2 c = let p = c.requires in omega (arith, c.from.ensures, head-within _ c.args.opened.now.ready.ok _ p.k_bound)
 
 pub returns : goal.returns
-returns c = mark-read _ _ c.wide16.ensures.0 c.wide16-2.ensures.0 (c.wide16-egress.ensures.0 ∙ c.body_byte.ensures) (c.wide16-mac.ensures.0 ∙ c.body_byte-2.ensures)
+returns c = mark-read _ _ (rw c.from.ensures at c.from-2.ensures) (rw c.from.ensures at c.from-3.ensures) (c.from-egress.ensures ∙ c.body_byte.ensures) (c.from-mac.ensures ∙ c.body_byte-2.ensures)

@@ -3,15 +3,15 @@ use native.Mathlib.Omega.{arith}
 use Rattle.graph.proofs.SearchTurns.{ends-later, ends-core, ends-other}
 use Rattle.graph.proofs.search.begins_and_arrives.Goals as goal
 
-pub returns-then-first-eq0 : goal.returns-then-first-eq0
-returns-then-first-eq0 c = ends-later _ _ _ _ c.requires.first_value c.if-first-eq0.true
+pub returns-then-not-first : goal.returns-then-not-first
+returns-then-not-first c = ends-later _ _ _ _ c.requires.first_value c.if-not-first.true
 
 pub returns-then-k-q : goal.returns-then-k-q
 returns-then-k-q c =
     let p = c.requires in
-    ends-core _ _ _ _ p.first_value c.if-first-eq0.false (omega arith)
+    ends-core _ _ _ _ p.first_value c.if-not-first.false (omega arith)
 
 pub returns : goal.returns
 returns c =
     let p = c.requires in
-    ends-other _ _ _ _ p.first_value c.if-first-eq0.false (omega arith) c.ends_among_entries.ensures.0 c.ends_among_entries.ensures.1
+    ends-other _ _ _ _ p.first_value c.if-not-first.false (omega arith) c.ends_among_entries.ensures.0 c.ends_among_entries.ensures.1

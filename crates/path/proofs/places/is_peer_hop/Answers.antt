@@ -1,9 +1,11 @@
 -- `is_peer_hop` meets its contract.
+use mathlib.Core.Path.{sym, ◌∙◌}
+use borrow.Author.Tests.{ne_eqb}
 use Rattle.path.proofs.Standing.{peer-test, peer-none}
 use Rattle.path.proofs.places.is_peer_hop.Goals as goal
 
-pub returns-then-m-e : goal.returns-then-m-e
-returns-then-m-e c = peer-test _ _ c.if-m-e.true
+pub returns-then-m-from : goal.returns-then-m-from
+returns-then-m-from c = peer-test _ _ (c.if-m-from.true ∙ c.from.ensures)
 
-pub returns : goal.returns
-returns c = peer-none _ _ c.if-m-e.false
+pub returns-else-m-from : goal.returns-else-m-from
+returns-else-m-from c = ne_eqb _ _ c.if-m-from.false ∙ peer-none _ _ (λ q. c.if-m-from.false (q ∙ sym c.from.ensures))

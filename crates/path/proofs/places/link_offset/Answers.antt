@@ -7,4 +7,4 @@ use Rattle.path.proofs.places.link_offset.Goals as goal
 
 pub returns : goal.returns
 unfolding link_offset peer_offset
-returns c = (refl, omega arith)
+returns c = rw c.from.ensures (refl, omega (arith, c.from.ensures))

@@ -1,11 +1,7 @@
 -- `put16` meets its contract.
 use native.Mathlib.Omega.{arith}
-use lib.ListN.{length-set}
-use Rattle.output.proofs.Writing.{octets2-stored}
+use Rattle.output.proofs.Copied.{copied_in, put2}
 use Rattle.path.proofs.within.put16.Goals as goal
 
-pub bounds-out-at-2 : goal.bounds-out-at-2
-bounds-out-at-2 c = simp length-set (omega arith)
-
 pub returns : goal.returns
-returns c = octets2-stored _ _ _ (omega arith)
+returns c = put2 _ _ _ _ _ (copied_in _ _ _ _ _ c.copy_from_slice.ensures.after (omega arith) (omega arith)) c.to_be_bytes.ensures

@@ -1,6 +1,8 @@
 -- `read16` meets its contract.
-use Rattle.octets.proofs.Halves.{halves16}
+use native.Mathlib.Omega.{arith}
+use Rattle.spec.specs.Octets.{be16}
 use Rattle.path.proofs.within.read16.Goals as goal
 
 pub returns : goal.returns
-returns c = halves16 _ _ c.wide16.ensures.0 c.wide16-2.ensures.0
+unfolding be16
+returns c = omega (arith, c.from_be_bytes.ensures)

@@ -1,5 +1,5 @@
 -- `put_infos` meets its contract. The invariant of its loop: the first k lines are written.
-use Prim.Native.Nat.{◌+◌, ◌-◌, ◌*◌, ◌≤◌}
+use Prim.Native.Nat.{◌+◌, ◌*◌, ◌≤◌}
 use mathlib.Core.Path.{◌≡◌}
 use lib.ListN.{length}
 use Rattle.path.specs.Places.{Wrote}
@@ -7,7 +7,4 @@ use Rattle.printed.specs.Lines.{info_text, lines_to}
 use Rattle.printed.proofs.lines.put_infos.Given as goal
 
 abbrev pub invariant-loop-k : goal.invariant-loop-k
-invariant-loop-k l = Wrote l.initial.out l.at (lines_to (info_text l.path) l.k) l.out l.to × (l.k ≤ l.count) × (l.to ≤ l.at + 64 * l.k) × (length l.out ≡ length l.initial.out)
-
-abbrev pub decreases-loop-k : goal.decreases-loop-k
-decreases-loop-k l = l.count - l.k
+invariant-loop-k l = Wrote l.initial.out l.at (lines_to (info_text l.path) l.k) l.out l.to × (l.to ≤ l.at + 64 * l.k) × (length l.out ≡ length l.initial.out)

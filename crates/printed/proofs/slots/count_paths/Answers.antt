@@ -7,7 +7,7 @@ use Rattle.printed.proofs.slots.count_paths.Goals as goal
 use Rattle.printed.proofs.slots.count_paths.Goals.{then-has_path, else-has_path}
 
 pub loop-k-init : goal.loop-k-init
-loop-k-init c = (paths-none _ _, omega arith, omega arith)
+loop-k-init c = (paths-none _ _, omega arith)
 
 pub has_path-requires : goal.has_path-requires
 has_path-requires c = record { ends_size_in_bounds = c.requires.ends_size_in_bounds; k_in_bounds = omega arith }
@@ -15,11 +15,6 @@ has_path-requires c = record { ends_size_in_bounds = c.requires.ends_size_in_bou
 pub loop-k-preserved : goal.loop-k-preserved
 loop-k-preserved c =
     elim c.if-has_path.branch [
-      | then-has_path w ↦ (w.paths-is ∙ paths-more _ _ _ _ c.loop-k.invariant.0 (sym w.if-has_path.true ∙ c.has_path.ensures), omega arith, omega arith)
-      | else-has_path w ↦ (w.paths-is ∙ paths-same _ _ _ _ c.loop-k.invariant.0 (sym w.if-has_path.false ∙ c.has_path.ensures), omega arith, omega arith)
+      | then-has_path w ↦ (w.paths-is ∙ paths-more _ _ _ _ c.loop-k.invariant.0 (sym w.if-has_path.true ∙ c.has_path.ensures), omega arith)
+      | else-has_path w ↦ (w.paths-is ∙ paths-same _ _ _ _ c.loop-k.invariant.0 (sym w.if-has_path.false ∙ c.has_path.ensures), omega arith)
     ]
-
-pub returns : goal.returns
-returns c =
-    let e : c.loop-k.k ≡ c.args.n = omega arith in
-    c.loop-k.invariant.0 ∙ ap (paths_to c.args.input.now c.args.records.now) e

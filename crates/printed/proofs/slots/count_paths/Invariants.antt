@@ -5,7 +5,4 @@ use Rattle.printed.specs.Pieces.{paths_to}
 use Rattle.printed.proofs.slots.count_paths.Given as goal
 
 abbrev pub invariant-loop-k : goal.invariant-loop-k
-invariant-loop-k l = (l.paths ≡ paths_to l.input l.records l.k) × (l.paths ≤ l.k) × (l.k ≤ l.n)
-
-abbrev pub decreases-loop-k : goal.decreases-loop-k
-decreases-loop-k l = l.n - l.k
+invariant-loop-k l = (l.paths ≡ paths_to l.input l.records l.k) × (l.paths ≤ l.k)

@@ -1,4 +1,5 @@
 -- `glyph` meets its contract.
+use native.Mathlib.Omega.{arith}
 use Rattle.printed.proofs.Numbers.{glyph-low, glyph-high}
 use Rattle.printed.proofs.text.glyph.Goals as goal
 
@@ -6,4 +7,4 @@ pub returns-then-d-lt10 : goal.returns-then-d-lt10
 returns-then-d-lt10 c = glyph-low _ c.if-d-lt10.true
 
 pub returns : goal.returns
-returns c = glyph-high _ c.if-d-lt10.false
+returns c = omega (arith, glyph-high c.args.d c.if-d-lt10.false)

@@ -8,6 +8,3 @@ use Rattle.printed.proofs.text.put_digits.Given as goal
 
 abbrev pub invariant-loop-i : goal.invariant-loop-i
 invariant-loop-i l = (written l.out l.at (digits l.base l.i l.rest) ≡ written l.initial.out l.at (digits l.base l.count l.n)) × (l.i ≤ l.count) × (length l.out ≡ length l.initial.out)
-
-abbrev pub decreases-loop-i : goal.decreases-loop-i
-decreases-loop-i l = l.i

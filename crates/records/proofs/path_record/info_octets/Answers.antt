@@ -1,7 +1,6 @@
 -- `info_octets` meets its contract.
-use native.Mathlib.Omega.{arith}
 use Rattle.records.proofs.Octets.{info-is}
 use Rattle.records.proofs.path_record.info_octets.Goals as goal
 
 pub returns : goal.returns
-returns c = info-is _ _ _ (omega arith) (omega arith) c.bit.ensures.0 c.bit-2.ensures.0
+returns c = info-is _ c.bit.ensures.0 c.bit-2.ensures.0 c.to_be_bytes.ensures c.to_be_bytes-2.ensures

@@ -1,12 +1,9 @@
 -- `bit` meets its contract.
 use Rattle.spec.specs.Records.{bit}
-use borrow.Author.Rules.{rules}
+use Rattle.std.proofs.lemmas.Grind.{common_steps}
+use native.Mathlib.Omega.{arith}
 use Rattle.records.proofs.solution_record.bit.Goals as goal
 
-pub returns-then-b : goal.returns-then-b
+pub returns : goal.returns
 unfolding bit
-returns-then-b c = search rules
-
-pub returns-else-b : goal.returns-else-b
-unfolding bit
-returns-else-b c = search rules
+returns c = grind (arith, common_steps)

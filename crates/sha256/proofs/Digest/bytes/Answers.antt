@@ -1,18 +1,34 @@
 -- `sha256::Digest::bytes` meets its contract.
-use Rattle.std.proofs.Common.{◌≡◌, ℕ, List, replicate}
-use Rattle.sha256.specs.declared.Digest.{Digest}
-use Rattle.sha256.specs.Words.{stored}
+use Rattle.std.proofs.Common.{◌≡◌, ℕ, ◌+◌, ◌-◌, ◌*◌, ◌<◌, List, length, take, get_or, rules, arith, refl, sym, ap, ◌∙◌, take_all}
+use Rattle.std.proofs.lemmas.Slice.{take-put_mid, overwrites}
+use borrow.Rule.Slice.PartMut.{put_mid}
+use Rattle.sha256.specs.Words.{octets}
 use Rattle.sha256.specs.Hash.{output}
+use Rattle.sha256.proofs.Bytes.{octets-of-word, joined, joined-more}
 use Rattle.sha256.proofs.Digest.bytes.Goals as goal
 
--- the words, stored one after the other
-steps : (x : Digest) {r₁ r₂ r₃ r₄ r₅ r₆ r₇ r : List ℕ}
-    → r₁ ≡ stored (replicate 32 0) 0 x.a → r₂ ≡ stored r₁ 4 x.b → r₃ ≡ stored r₂ 8 x.c → r₄ ≡ stored r₃ 12 x.d
-    → r₅ ≡ stored r₄ 16 x.e → r₆ ≡ stored r₅ 20 x.f → r₇ ≡ stored r₆ 24 x.g → r ≡ stored r₇ 28 x.h
-    → r ≡ output x
-unfolding output
-steps x p₁ p₂ p₃ p₄ p₅ p₆ p₇ p₈ = rw (p₈, p₇, p₆, p₅, p₄, p₃, p₂, p₁)
+-- one word more
+stored : (out ys ws : List ℕ) (i : ℕ) → length out ≡ 32 → length ws ≡ 8 → i < 8 → take (i * 4) out ≡ joined (take i ws) → ys ≡ octets 4 (get_or ws i 0)
+    → take ((i + 1) * 4) (put_mid (i * 4) (i * 4 + 4 - i * 4) out ys) ≡ joined (take (i + 1) ws)
+stored out ys ws i n k h e f =
+    let s : (i + 1) * 4 ≡ i * 4 + length ys = omega (arith, ap length f) in
+    take-put_mid (i * 4) (i * 4 + 4 - i * 4) out ys ((i + 1) * 4) s (omega arith)
+    ∙ rw (e, f, joined-more ws i (omega arith)) refl
+
+pub loop-i-init : goal.loop-i-init
+unfolding joined
+loop-i-init c = (refl, refl)
+
+pub loop-i-preserved : goal.loop-i-preserved
+loop-i-preserved c =
+    let l = c.loop-i in (
+      search (rules, overwrites),
+      stored l.out c.copy_from_slice.new.self _ l.i l.invariant.0 refl (omega arith) l.invariant.1 (c.copy_from_slice.ensures.after ∙ c.to_be_bytes.ensures ∙ octets-of-word _),
+    )
 
 pub returns : goal.returns
+unfolding joined output
 returns c =
-    steps c.args.self c.put-out.ensures c.put-out-2.ensures c.put-out-3.ensures c.put-out-4.ensures c.put-out-5.ensures c.put-out-6.ensures c.put-out-7.ensures c.put.ensures
+    let l = c.loop-i in
+    let i : l.i ≡ 8 = omega arith in
+    sym (take_all 32 l.out (omega arith)) ∙ rw i at l.invariant.1

@@ -1,11 +1,11 @@
 -- `sha256::Digest::rounds` meets its contract. The loops' invariants: the words before the next one are those of the schedule, and the
--- variables are those after t rounds over the words there are; t is even.
-use Rattle.std.proofs.Common.{◌≡◌, ℕ, zero, suc, ◌+◌, ◌<◌, ◌≤◌, List, length, get_or, take, set, sym, refl, ap, ◌∙◌, ap₂, add-one, arith, length-set, take_all, get_or-set_other, get_or-take}
+-- variables are those after 2 i rounds over the words there are.
+use Rattle.std.proofs.Common.{◌≡◌, ℕ, zero, suc, ◌+◌, ◌*◌, ◌<◌, ◌≤◌, List, length, get_or, take, set, sym, refl, ap, ◌∙◌, ap₂, add-one, arith, rules, length-set, take_all, get_or-set_other, get_or-take}
+use Rattle.std.proofs.lemmas.Grind.{take-set_at}
 use Rattle.sha256.specs.declared.Digest.{Digest}
 use Rattle.sha256.specs.Words.{next}
 use Rattle.sha256.specs.Constants.{K}
 use Rattle.sha256.specs.Hash.{words, schedule, round, rounds}
-use Rattle.sha256.proofs.Lists.{take-stored}
 use Rattle.sha256.proofs.Digest.rounds.Goals as goal
 
 -- the 16 words are the start of the schedule
@@ -19,11 +19,9 @@ grow : (w : List ℕ) (t : ℕ) (m : List ℕ) (r : ℕ) → length w ≡ 64 →
     → take (t + 1 + 16) (set w (t + 16) r) ≡ schedule (t + 1) m
 unfolding schedule
 grow w t m r n h e f =
-    let a : t + 1 + 16 ≡ t + 16 + 1 = omega arith in
     let l : t + 16 < length w = omega arith in
     rw (
-      a,
-      take-stored w (t + 16) r l,
+      take-set_at w (t + 16) (t + 1 + 16) r (omega arith) l,
       add-one,
       ← e,
       f,
@@ -47,8 +45,8 @@ grow-next w t m r n h e f =
     sym (ap₂ (λ i j. take i (set w j r)) z u) ∙ grow w (t + 1) m r n h e g ∙ ap (λ i. schedule i m) s
 
 -- and the last word ends it
-done : (w : List ℕ) (t : ℕ) (m : List ℕ) → t ≤ 48 → 48 ≤ t → length w ≡ 64 → take (t + 16) w ≡ schedule t m → w ≡ schedule 48 m
-done w t m f g n e = let k : t ≡ 48 = omega arith in sym (take_all 64 w (omega arith)) ∙ (rw k at e)
+done : (w m : List ℕ) → length w ≡ 64 → take 64 w ≡ schedule 48 m → w ≡ schedule 48 m
+done w m n e = sym (take_all 64 w (omega arith)) ∙ e
 
 -- a word stored further on does not change the rounds before it
 ahead : (t : ℕ) (w : List ℕ) (j x : ℕ) (v : Digest) → t ≤ j → rounds t (set w j x) v ≡ rounds t w v
@@ -70,46 +68,45 @@ more-next t w v₀ e f =
     more (t + 1) w v₀ e f ∙ ap (λ i. rounds i w v₀) s
 
 -- all of them, where the words are the whole schedule
-all : (t : ℕ) (m : List ℕ) (v₀ : Digest) {w : List ℕ} {v : Digest} → t ≤ 64 → 64 ≤ t → w ≡ schedule 48 m → v ≡ rounds t w v₀ → v ≡ rounds 64 (schedule 48 m) v₀
-all t m v₀ f g e h = let k : t ≡ 64 = omega arith in rw (← e, ← k, h)
+all : (m : List ℕ) (v₀ : Digest) {w : List ℕ} {v : Digest} → w ≡ schedule 48 m → v ≡ rounds 64 w v₀ → v ≡ rounds 64 (schedule 48 m) v₀
+all m v₀ e h = rw (← e) h
 
-pub loop-t-init : goal.loop-t-init
+pub loop-i-init : goal.loop-i-init
 unfolding rounds
-loop-t-init c = (omega arith, c.words-w.ensures.0, start c.words-w.result c.args.m.now c.words-w.ensures.1, refl, omega arith)
+loop-i-init c = (search rules, start c.words-w.result c.args.m.now c.words-w.ensures, refl)
 
-pub loop-t-preserved : goal.loop-t-preserved
+pub loop-i-preserved : goal.loop-i-preserved
 unfolding K
-loop-t-preserved c =
-    let l = c.loop-t in
+loop-i-preserved c =
+    let l = c.loop-i in
     let a = c.args in
+    let t : ℕ = l.i * 2 in
+    let e : (l.i + 1) * 2 ≡ t + 2 = omega arith in
     let x = c.next.result in
-    let y = c.next-in-loop-t.result in
-    let w = set l.w (l.t + 16) x in
-    let z = set w (l.t + 17) y in
-    let n = length-set l.w (l.t + 16) x ∙ l.invariant.1 in
-    let g = grow l.w l.t a.m.now x l.invariant.1 c.loop-t-test.true l.invariant.2 c.next.ensures in
-    let r = more l.t w a.self (l.invariant.3 ∙ sym (ahead l.t l.w (l.t + 16) x a.self (omega arith))) c.round-v.ensures in (
-      omega (arith, l.invariant.4),
-      length-set w (l.t + 17) y ∙ n,
-      grow-next w l.t a.m.now y n (omega (arith, l.invariant.4)) g c.next-in-loop-t.ensures,
-      more-next l.t z a.self (r ∙ sym (ahead (l.t + 1) w (l.t + 17) y a.self (omega arith))) c.round-v-in-loop-t.ensures,
-      omega (arith, l.invariant.4),
+    let y = c.next-in-loop-i.result in
+    let w : List ℕ = set l.w (t + 16) x in
+    let z : List ℕ = set w (t + 17) y in
+    let n = length-set l.w (t + 16) x ∙ l.invariant.0 in
+    let g = grow l.w t a.m.now x l.invariant.0 (omega arith) l.invariant.1 c.next.ensures in
+    let r = more t w a.self (l.invariant.2 ∙ sym (ahead t l.w (t + 16) x a.self (omega arith))) c.round-v.ensures in (
+      length-set w (t + 17) y ∙ n,
+      rw e (grow-next w t a.m.now y n (omega arith) g c.next-in-loop-i.ensures),
+      rw e (more-next t z a.self (r ∙ sym (ahead (t + 1) w (t + 17) y a.self (omega arith))) c.round-v-in-loop-i.ensures),
     )
 
-pub loop-t-2-init : goal.loop-t-2-init
-loop-t-2-init c = (omega arith, λ v₀ e. e, c.loop-t.invariant.4)
-
-pub loop-t-2-preserved : goal.loop-t-2-preserved
+pub loop-i-2-preserved : goal.loop-i-2-preserved
 unfolding K
-loop-t-2-preserved c =
-    let l = c.loop-t-2 in
-    let w = c.loop-t.w in
-    (omega (arith, l.invariant.2), λ v₀ e. more-next l.t w v₀ (more l.t w v₀ (l.invariant.1 v₀ e) c.round-v-in-loop-t-2.ensures) c.round-v-in-loop-t-2-2.ensures, omega (arith, l.invariant.2))
+loop-i-2-preserved c =
+    let l = c.loop-i-2 in
+    let w = c.loop-i.w in
+    let t : ℕ = l.i * 2 in
+    let e : (l.i + 1) * 2 ≡ t + 2 = omega arith in
+    rw e (more-next t w c.args.self (more t w c.args.self l.invariant c.round.ensures) c.round-v-in-loop-i-2.ensures)
 
 pub returns : goal.returns
 returns c =
-    let l₂ = c.loop-t-2 in
-    let l = c.loop-t in
-    let a = c.args in
-    let m = a.m.now in
-    all l₂.t m a.self l₂.invariant.0 c.loop-t-2-test.false (done l.w l.t m l.invariant.0 c.loop-t-test.false l.invariant.1 l.invariant.2) (l₂.invariant.1 a.self l.invariant.3)
+    let l₂ = c.loop-i-2 in
+    let l = c.loop-i in
+    let i : l.i ≡ 24 = omega arith in
+    let j : l₂.i ≡ 32 = omega arith in
+    all c.args.m.now c.args.self (done l.w c.args.m.now l.invariant.0 (rw i at l.invariant.1)) (rw j at l₂.invariant)

@@ -1,8 +1,7 @@
 -- `types::exp_time_to_duration` meets its contract. Assumes nothing.
-use mathlib.Core.Path.{refl}
 use Rattle.spec.specs.Assembly.{life}
 use Rattle.standard.proofs.types.exp_time_to_duration.Goals as goal
 
 pub returns : goal.returns
 unfolding life
-returns c = refl
+returns c = cc

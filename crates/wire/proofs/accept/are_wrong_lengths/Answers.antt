@@ -1,5 +1,6 @@
 -- `are_wrong_lengths` meets its contract.
 use borrow.Author.Tests.{lt-ltb, le-ltb, eq-eqb, ne_eqb}
+use mathlib.Core.Path.{◌∙◌}
 use Rattle.spec.specs.Wire.{wrong_lengths}
 use Rattle.wire.proofs.Testing.{this, later, gap_of, no-gap-of}
 use Rattle.wire.proofs.accept.are_wrong_lengths.Goals as goal
@@ -24,6 +25,6 @@ pub returns-then-second-eq0 : goal.returns-then-second-eq0
 unfolding wrong_lengths
 returns-then-second-eq0 c = later (ne_eqb _ _ c.if-first-eq0.false) (later (le-ltb _ _ c.if-first-gt-ENTRIES.false) (later (le-ltb _ _ c.if-second-gt-ENTRIES.false) (later (le-ltb _ _ c.if-third-gt-ENTRIES.false) (gap_of c.args.second c.args.third c.if-second-eq0.true))))
 
-pub returns : goal.returns
+pub returns-else-second-eq0 : goal.returns-else-second-eq0
 unfolding wrong_lengths
-returns c = later (ne_eqb _ _ c.if-first-eq0.false) (later (le-ltb _ _ c.if-first-gt-ENTRIES.false) (later (le-ltb _ _ c.if-second-gt-ENTRIES.false) (later (le-ltb _ _ c.if-third-gt-ENTRIES.false) (no-gap-of c.args.second c.args.third c.if-second-eq0.false))))
+returns-else-second-eq0 c = ne_eqb _ _ c.if-second-eq0.false ∙ later (ne_eqb _ _ c.if-first-eq0.false) (later (le-ltb _ _ c.if-first-gt-ENTRIES.false) (later (le-ltb _ _ c.if-second-gt-ENTRIES.false) (later (le-ltb _ _ c.if-third-gt-ENTRIES.false) (no-gap-of c.args.second c.args.third c.if-second-eq0.false))))

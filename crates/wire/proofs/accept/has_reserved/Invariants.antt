@@ -1,11 +1,7 @@
 -- `has_reserved` meets its contract. The invariant of its loop: the first k infos are not odd.
-use Prim.Native.Nat.{◌-◌, ◌≤◌}
 use Rattle.spec.specs.Wire.{uses_reserved}
 use Rattle.wire.proofs.Testing.{None}
 use Rattle.wire.proofs.accept.has_reserved.Given as goal
 
 abbrev pub invariant-loop-k : goal.invariant-loop-k
-invariant-loop-k l = None (uses_reserved l.wire) l.n l.k × (l.k ≤ l.n)
-
-abbrev pub decreases-loop-k : goal.decreases-loop-k
-decreases-loop-k l = l.n - l.k
+invariant-loop-k l = None (uses_reserved l.wire) l.n l.k

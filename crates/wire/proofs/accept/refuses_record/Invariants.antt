@@ -1,10 +1,6 @@
 -- `refuses_record` meets its contract. The invariant of its loop: the first k infos are not wrong, and have `total` hops.
-use Prim.Native.Nat.{◌-◌, ◌≤◌}
 use Rattle.wire.proofs.Testing.{Passed}
 use Rattle.wire.proofs.accept.refuses_record.Given as goal
 
 abbrev pub invariant-loop-k : goal.invariant-loop-k
-invariant-loop-k l = Passed l.path l.k l.total × (l.k ≤ l.infos)
-
-abbrev pub decreases-loop-k : goal.decreases-loop-k
-decreases-loop-k l = l.infos - l.k
+invariant-loop-k l = Passed l.path l.k l.total

@@ -1,8 +1,10 @@
 -- `move_hop` meets its contract.
-use mathlib.Core.Path.{refl}
+use Prim.Native.Nat.{◌+◌, ◌-◌}
+use native.Mathlib.Omega.{arith}
 use Rattle.spec.specs.Limits.{hop_size}
-use Rattle.output.proofs.Writing.{piece-put}
+use Rattle.output.proofs.Copied.{copied_part}
 use Rattle.wire.proofs.put.move_hop.Goals as goal
 
 pub returns : goal.returns
-returns c = piece-put hop_size _ _ _ _ _ _ _ refl c.requires.0 c.copy.ensures c.copy-2.ensures
+returns c =
+    copied_part _ _ _ _ _ (c.args.from + hop_size - c.args.from) hop_size _ c.copy_from_slice.ensures.after (omega arith) (omega arith) c.requires.0 c.requires.1

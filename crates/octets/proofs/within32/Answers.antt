@@ -1,7 +1,0 @@
--- `octets::within32` meets its contract.
-use native.Mathlib.Omega.{arith}
-use Rattle.octets.proofs.Halves.{four_bytes}
-use Rattle.octets.proofs.within32.Goals as goal
-
-pub returns : goal.returns
-returns c = rw four_bytes (omega arith)

@@ -1,0 +1,20 @@
+-- `put_infos` meets its contract. The invariant of its loop: the first k infos are written.
+use native.Mathlib.Omega.{arith}
+use mathlib.Core.Path.{refl}
+use Rattle.wire.proofs.Carrying.{filled_none, record-room, wire-info-more, wire-info-all, kept}
+use Rattle.wire.proofs.put.TakenRecord.put_infos.Goals as goal
+
+pub loop-k-init : goal.loop-k-init
+loop-k-init c = (filled_none _ _ _, refl)
+
+pub put_info-requires : goal.put_info-requires
+put_info-requires c = (omega (arith, (record-room _ c.args.self.now.bytes c.args.self.now.taken).0, c.infos-k-end.ensures.0), omega (arith, (record-room _ c.args.self.now.bytes c.args.self.now.taken).1, c.infos-k-end.ensures.0))
+
+pub loop-k-preserved : goal.loop-k-preserved
+loop-k-preserved c = (wire-info-more _ c.args.self.now.bytes c.args.self.now.taken _ c.infos-k-end.ensures.0 _ _ _ _ c.loop-k-test.true c.loop-k.invariant.0 c.put_info.ensures, kept _ _ _ c.put_info.ensures c.loop-k.invariant.1)
+
+pub shape_of-out : goal.shape_of-out
+shape_of-out c = c.loop-k.invariant.1
+
+pub returns : goal.returns
+returns c = wire-info-all _ c.args.self.now.bytes c.args.self.now.taken _ c.infos-k-end.ensures.0 _ _ _ c.loop-k.auto.k-end c.loop-k-test.false c.loop-k.invariant.0
