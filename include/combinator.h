@@ -90,7 +90,7 @@
  * an output of its own.
  *
  * A call needs at most COMBINATOR_STACK_SIZE bytes of stack: `driver stack` measured 75,159 for
- * combinator_list, 97,879 for combinator_routes and 3,607 for combinator_assemble; for
+ * combinator_list, 77,271 for combinator_routes and 3,607 for combinator_assemble; for
  * combinator_write and combinator_read at most 1,024, the least that it tells.
  *
  * The library has unwind tables: a debugger, or backtrace() in a signal handler, passes through it.

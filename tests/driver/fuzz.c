@@ -15,6 +15,7 @@
 #include <stdlib.h>
 #include <string.h>
 #include <sys/mman.h>
+#include <time.h>
 
 #include "build.h"
 #include "combinator.h"
@@ -168,8 +169,9 @@ static void fault(int signal_number)
 static uint8_t expected[MAX_OUT];
 
 /* No call takes longer than include/combinator.h says. The thread's clock counts time too in which a virtual machine was taken off its
- * processor: a call that seems long is made again, and the least time counts. */
+ * processor, or shares it: a call that seems long is made again, then again a little later, and the least time counts. */
 #define TRIES 5
+#define ROUNDS 20
 
 struct call {
     enum kind kind;
@@ -231,6 +233,18 @@ static uint64_t least(const struct call *c, uint64_t ns)
     return ns;
 }
 
+/* The same, as long as it seems longer than stated. */
+static uint64_t least_of_rounds(const struct call *c, uint64_t ns, uint64_t stated)
+{
+    const struct timespec pause = {0, 50000000};
+    int i;
+    for (i = 1; i < ROUNDS && ns > stated; i++) {
+        nanosleep(&pause, NULL);
+        ns = least(c, ns);
+    }
+    return ns;
+}
+
 /* What a call may read: a copy of these bytes, at a place that was drawn; and what is said where it was written. */
 struct lent {
     const char *fault;
@@ -261,7 +275,7 @@ const uint8_t *check(enum kind kind, size_t out_len, uint32_t *answered)
     struct call it = {kind, NULL, NULL, NULL, NULL, out_len};
     uint8_t *out = it.out = place(&out_area, out_at, out_len);
     uint32_t answer, want;
-    uint64_t ns;
+    uint64_t ns, stated;
     size_t i;
 
     if (takes_book(kind)) {
@@ -292,8 +306,9 @@ const uint8_t *check(enum kind kind, size_t out_len, uint32_t *answered)
     most->calls++;
     if (ns > most->ns)
         ns = least(&it, ns);
+    stated = kind == LISTING || kind == ROUTES ? COMBINATOR_LIST_NS : COMBINATOR_ASSEMBLE_NS;
     /* Not under valgrind, which makes all slower. */
-    if (!undefined && ns > (kind == LISTING || kind == ROUTES ? COMBINATOR_LIST_NS : COMBINATOR_ASSEMBLE_NS))
+    if (!undefined && ns > stated && (ns = least_of_rounds(&it, ns, stated)) > stated)
         wrong(kind, "longer than stated", out_len, answer, want);
     if (ns > most->ns) {
         most->ns = ns;

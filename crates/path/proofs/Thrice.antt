@@ -130,7 +130,7 @@ module _ (d : List ℕ) (at n : ℕ) where
       next : (j : ℕ) → at + 8 * (j + 1) ≡ at + 8 + 8 * j
       next j = omega arith
 
-  times-end : (x : ℕ) → n ≡ 0 → times_in x (numbers_in d at n) ≡ 0
+  pub times-end : (x : ℕ) → n ≡ 0 → times_in x (numbers_in d at n) ≡ 0
   times-end x q = ap (times_in x) (numbers-none q) ∙ times-nil x
 
   pub thrice-end : n ≡ 0 → some_thrice (numbers_in d at n) ≡ false
@@ -141,10 +141,10 @@ module _ (d : List ℕ) (at n : ℕ) where
     first : numbers_in d at n ≡ y ∷ numbers_in d (at + 8) (n - 1)
     first = numbers-first h ∙ ap (λ z. z ∷ numbers_in d (at + 8) (n - 1)) (sym q)
 
-    times-found : (x : ℕ) → y ≡ x → times_in x (numbers_in d at n) ≡ times_in x (numbers_in d (at + 8) (n - 1)) + 1
+    pub times-found : (x : ℕ) → y ≡ x → times_in x (numbers_in d at n) ≡ times_in x (numbers_in d (at + 8) (n - 1)) + 1
     times-found x e = ap (times_in x) first ∙ times-same x y (numbers_in d (at + 8) (n - 1)) e
 
-    times-passed : (x : ℕ) → (y ≡ x → ⊥) → times_in x (numbers_in d at n) ≡ times_in x (numbers_in d (at + 8) (n - 1))
+    pub times-passed : (x : ℕ) → (y ≡ x → ⊥) → times_in x (numbers_in d at n) ≡ times_in x (numbers_in d (at + 8) (n - 1))
     times-passed x f = ap (times_in x) first ∙ times-other x y (numbers_in d (at + 8) (n - 1)) f
 
     thrice-first : some_thrice (numbers_in d at n) ≡ (ltb 1 (times_in y (numbers_in d (at + 8) (n - 1))) || some_thrice (numbers_in d (at + 8) (n - 1)))

@@ -25,7 +25,7 @@ const MEDIUM: usize = 512;
 
 const MEDIUM_BUCKETS: usize = 256;
 
-const LONG_BUCKETS: usize = 256;
+const LONG_BUCKETS: usize = 512;
 
 // The slot where a route is held, and the expiry of the record there.
 #[derive(Clone, Copy)]
@@ -198,6 +198,8 @@ fn keep_all<const N: usize, const B: usize>(opened: &Opened, out: &mut [u8], n: 
     buckets.kept
 }
 
+// Apart from `routes`, whose stack has the listing's on it: the tables would lie beside the buffer of its sort.
+#[inline(never)]
 fn keep_by_length(opened: &Opened, out: &mut [u8], n: usize) -> usize
     requires n_in_bounds { (solution_size * n ≤ length out.old) × (n ≤ max_slots) }
     requires all_of_book { AllOfBook opened.now.book.now out.old n }

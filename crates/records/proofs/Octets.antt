@@ -84,14 +84,14 @@ info-is i p q r s = rw (p, q, r, s, ← be_bytes2, ← be_bytes4) refl
 
 -- ---- a path's head, part by part
 
-counts-written : (d : List ℕ) (i h n : ℕ)
+pub counts-written : (d : List ℕ) (i h n : ℕ)
     → written (written (written (written d 0 (i ∷ [])) 1 (h ∷ [])) 2 (n ∷ [])) 3 (0 ∷ []) ≡ written d 0 (i ∷ h ∷ n ∷ 0 ∷ [])
 counts-written d i h n =
     ap (λ l. written (written l 2 (n ∷ [])) 3 (0 ∷ [])) (written-pair d 0 1 (i ∷ []) (h ∷ []) refl)
     ∙ ap (λ l. written l 3 (0 ∷ [])) (written-pair d 0 2 (i ∷ h ∷ []) (n ∷ []) refl)
     ∙ written-pair d 0 3 (i ∷ h ∷ n ∷ []) (0 ∷ []) refl
 
-ends-written : (d : List ℕ) (m e f l : ℕ)
+pub ends-written : (d : List ℕ) (m e f l : ℕ)
     → written (written (written (written d 4 (octets2 m)) 6 (octets4 e)) 10 (octets8 f)) 18 (octets8 l) ≡ written d 4 (octets2 m ++ octets4 e ++ octets8 f ++ octets8 l)
 ends-written d m e f l =
     ap (λ x. written (written x 10 (octets8 f)) 18 (octets8 l)) (written-pair d 4 2 (octets2 m) (octets4 e) (unfold octets2 in refl))

@@ -13,11 +13,21 @@ use spec::{HopField, InfoField, IsdAsn, Path};
 
 // ---- copies
 
+fn hop_in(src: &[u8], from: usize) -> [u8; HopField::SIZE]
+    requires { from + hop_size ≤ length src.now }
+    ensures { result ≡ take hop_size (drop from src.now) }
+{
+    let mut hop = [0u8; HopField::SIZE];
+    hop.copy_from_slice(&src[from..from + HopField::SIZE]);
+    hop
+}
+
+// By way of a local array, which the compiler moves as a whole: between two slices it tests whether they overlap, at every hop.
 fn move_hop(src: &[u8], from: usize, dst: &mut [u8], to: usize)
     requires { (from + hop_size ≤ length src.now) × (to + hop_size ≤ length dst.old) }
     ensures { dst.new ≡ written dst.old to (take hop_size (drop from src.now)) }
 {
-    dst[to..to + HopField::SIZE].copy_from_slice(&src[from..from + HopField::SIZE]);
+    dst[to..to + HopField::SIZE].copy_from_slice(&hop_in(src, from));
 }
 
 // An info's flags, a byte, and its id and timestamp.

@@ -10,4 +10,4 @@ counted-requires c = wire-low _ _ _ c.read.ensures (λ n q. omega (arith, ((reve
 
 pub returns : goal.returns
 unfolding read_returned
-returns c = wire-number _ _ _ c.read.ensures _ c.counted.ensures
+returns c = wire-number _ _ _ c.read.ensures _ (search (arith, c.counted.ensures))

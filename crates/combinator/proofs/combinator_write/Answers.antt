@@ -10,4 +10,4 @@ counted-requires c = wire-low _ _ _ c.write.ensures (λ n q. omega (arith, ((rev
 
 pub returns : goal.returns
 unfolding write_returned
-returns c = wire-number _ _ _ c.write.ensures _ c.counted.ensures
+returns c = wire-number _ _ _ c.write.ensures _ (search (arith, c.counted.ensures))

@@ -21,9 +21,10 @@ loop-i-init c = (refl, refl)
 
 pub loop-i-preserved : goal.loop-i-preserved
 loop-i-preserved c =
-    let l = c.loop-i in (
+    let l = c.loop-i in
+    let bytes = c.copy_from_slice.ensures.after ∙ c.to_be_bytes.ensures ∙ octets-of-word _ in (
       search (rules, overwrites),
-      stored l.out c.copy_from_slice.new.self _ l.i l.invariant.0 refl (omega arith) l.invariant.1 (c.copy_from_slice.ensures.after ∙ c.to_be_bytes.ensures ∙ octets-of-word _),
+      stored l.out c.copy_from_slice.new.self _ l.i l.invariant.0 refl (omega arith) l.invariant.1 (bytes ∙ ap (octets 4) (search rules)),
     )
 
 pub returns : goal.returns
